@@ -1,2 +1,2 @@
 -- What private functions alone cite, in reading order.
-pub mod Fragments
+pub mod Segments

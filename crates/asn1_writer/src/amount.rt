@@ -4,7 +4,7 @@ ghost use Rattle.std.specs.List.{concat};
 ghost use Rattle.outside.specs.Pushes.{Pushes};
 ghost use Rattle.asn1_model.specs.ModuleText.{lines_from, money_lines, number_texts, own_line};
 
-use crate::fragment::Fragment;
+use crate::segment::Segment;
 use facets::Step;
 use outside::{Part, Render, Sink, SinkError, render_all};
 
@@ -49,25 +49,25 @@ fn push_currency<O: Sink>(code: &[u8], sink: &mut O) -> Result<(), SinkError>
 pub(crate) fn push_real<O: Sink>(before: &[u8], step: &Step, sink: &mut O) -> Result<(), SinkError>
     ensures { Pushes O.held O.faults O.room sink.old sink.new result (concat (before.now ∷ number_texts step.now)) }
 {
-    let fragments = [
-        Fragment::Bytes(before),
-        Fragment::Bytes(b"REAL (WITH COMPONENTS {..., base (10)})"),
-        Fragment::Digits {
+    let segments = [
+        Segment::Bytes(before),
+        Segment::Bytes(b"REAL (WITH COMPONENTS {..., base (10)})"),
+        Segment::Digits {
             word: b"totalDigits ",
             most: step.total,
         },
-        Fragment::Digits {
+        Segment::Digits {
             word: b"fractionDigits ",
             most: step.fraction,
         },
-        Fragment::Bound {
+        Segment::Bound {
             side: b"min",
             bound: step.low,
         },
-        Fragment::Bound {
+        Segment::Bound {
             side: b"max",
             bound: step.high,
         },
     ];
-    render_all(fragments.as_slice(), sink)
+    render_all(segments.as_slice(), sink)
 }

@@ -4,8 +4,8 @@ ghost use Rattle.std.specs.List.{concat};
 ghost use Rattle.outside.specs.Pushes.{Pushes};
 ghost use Rattle.asn1_model.specs.ModuleText.{field_line, lines_from, mode_texts, separator, size_text};
 
-use crate::fragment::Fragment;
 use crate::lines::separator;
+use crate::segment::Segment;
 use asn1_model::{Field, Fields, Mode};
 use outside::{Part, Render, Sink, SinkError, render_all};
 
@@ -103,18 +103,18 @@ fn push_list<'a, O: Sink>(
     ensures { Pushes O.held O.faults O.room sink.old sink.new result
         (concat (before.now ∷ name.now ∷ codes " SEQUENCE" ∷ size_text (Some min) max ∷ codes " OF " ∷ target.now ∷ [])) }
 {
-    let fragments = [
-        Fragment::Bytes(before),
-        Fragment::Bytes(name),
-        Fragment::Bytes(b" SEQUENCE"),
-        Fragment::Size {
+    let segments = [
+        Segment::Bytes(before),
+        Segment::Bytes(name),
+        Segment::Bytes(b" SEQUENCE"),
+        Segment::Size {
             min: Some(u64::from(min)),
             max: greatest(max),
         },
-        Fragment::Bytes(b" OF "),
-        Fragment::Bytes(target),
+        Segment::Bytes(b" OF "),
+        Segment::Bytes(target),
     ];
-    render_all(fragments.as_slice(), sink)
+    render_all(segments.as_slice(), sink)
 }
 
 /// The greatest number of items as a size, where there is one.

@@ -7,7 +7,7 @@ ghost use Rattle.asn1_model.specs.ModuleText.{braces, constraint_text, date_text
 use crate::amount::{MoneyLines, push_real};
 use crate::enumeration::CodeLines;
 use crate::fields::FieldLines;
-use crate::fragment::Fragment;
+use crate::segment::Segment;
 use crate::within::push_within;
 use asn1_model::AsnShape;
 use data_types::Kind;
@@ -92,30 +92,30 @@ fn push_text<O: Sink>(step: &Step, pattern: &Option<Text>, sink: &mut O) -> Resu
     ensures { Pushes O.held O.faults O.room sink.old sink.new result
         (concat (codes "UTF8String" ∷ size_text step.now.min step.now.max ∷ constraint_text (codes "xml characters" ∷ []) ∷ pattern_constraint pattern.now ∷ [])) }
 {
-    let fragments = [
-        Fragment::Bytes(b"UTF8String"),
-        Fragment::Size {
+    let segments = [
+        Segment::Bytes(b"UTF8String"),
+        Segment::Size {
             min: step.min,
             max: step.max,
         },
-        Fragment::Bytes(b" (CONSTRAINED BY {-- xml characters --})"),
-        Fragment::Pattern(pattern),
+        Segment::Bytes(b" (CONSTRAINED BY {-- xml characters --})"),
+        Segment::Pattern(pattern),
     ];
-    render_all(fragments.as_slice(), sink)
+    render_all(segments.as_slice(), sink)
 }
 
 /// Pushes the type of binary values: X.680 §23.
 fn push_binary<O: Sink>(step: &Step, sink: &mut O) -> Result<(), SinkError>
     ensures { Pushes O.held O.faults O.room sink.old sink.new result (concat (codes "OCTET STRING" ∷ size_text step.now.min step.now.max ∷ [])) }
 {
-    let fragments = [
-        Fragment::Bytes(b"OCTET STRING"),
-        Fragment::Size {
+    let segments = [
+        Segment::Bytes(b"OCTET STRING"),
+        Segment::Size {
             min: step.min,
             max: step.max,
         },
     ];
-    render_all(fragments.as_slice(), sink)
+    render_all(segments.as_slice(), sink)
 }
 
 /// Pushes a type of dates or times, by its name in XML Schema part 2.
@@ -126,10 +126,10 @@ fn push_date<'a, O: Sink>(
 ) -> Result<(), SinkError>
     ensures { Pushes O.held O.faults O.room sink.old sink.new result (date_text word.now pattern.now) }
 {
-    let fragments = [
-        Fragment::Bytes(b"VisibleString"),
-        Fragment::Profile(word),
-        Fragment::Pattern(pattern),
+    let segments = [
+        Segment::Bytes(b"VisibleString"),
+        Segment::Profile(word),
+        Segment::Pattern(pattern),
     ];
-    render_all(fragments.as_slice(), sink)
+    render_all(segments.as_slice(), sink)
 }

@@ -1,7 +1,7 @@
 //! What no clause says: that the text is a schema as the standard has it, for each shape and each facet, and that it is
 //! written where there is memory.
 use data_types::Kind;
-use facets::{Bound, Codes, Step, Texts};
+use facets::{Bound, Codes, Step, Texts, plain_step};
 use lexical_core::{Decimal, Text};
 use outside::{MemSink, WriteError};
 use std::alloc::{AllocError, Global};
@@ -127,24 +127,9 @@ fn texts_of(alloc: Global, rows: &[&str]) -> Result<Texts, AllocError> {
     Ok(texts)
 }
 
-/// A step with no facets.
-fn step_of(alloc: Global, base: Option<Kind>) -> Step {
-    Step {
-        base,
-        total: None,
-        fraction: None,
-        low: None,
-        high: None,
-        min: None,
-        max: None,
-        codes: Codes::new(alloc),
-        patterns: Texts::new(alloc),
-    }
-}
-
 fn flag(alloc: Global) -> Result<Steps, AllocError> {
     let mut steps = Steps::new(alloc);
-    steps.push(step_of(alloc, Some(Kind::Boolean)))?;
+    steps.push(plain_step(alloc, Some(Kind::Boolean)))?;
     Ok(steps)
 }
 
@@ -154,7 +139,7 @@ fn bound(tenths: i64, strict: bool) -> Option<Bound> {
 }
 
 fn number(alloc: Global) -> Result<Steps, AllocError> {
-    let mut step = step_of(alloc, Some(Kind::Decimal));
+    let mut step = plain_step(alloc, Some(Kind::Decimal));
     step.total = Some(18);
     step.fraction = Some(5);
     step.low = bound(-15, true);
@@ -167,7 +152,7 @@ fn number(alloc: Global) -> Result<Steps, AllocError> {
 fn code(alloc: Global) -> Result<Steps, AllocError> {
     let mut codes = Codes::new(alloc);
     codes.push(text_of(alloc, "\"A")?)?;
-    let mut step = step_of(alloc, Some(Kind::Text));
+    let mut step = plain_step(alloc, Some(Kind::Text));
     step.codes = codes;
     let mut steps = Steps::new(alloc);
     steps.push(step)?;
@@ -182,13 +167,13 @@ fn nested(alloc: Global) -> Result<Steps, AllocError> {
 
 fn add_steps(alloc: Global, steps: &mut Steps) -> Result<(), AllocError> {
     steps.push(first_step(alloc)?)?;
-    steps.push(step_of(alloc, None))?;
+    steps.push(plain_step(alloc, None))?;
     steps.push(last_step(alloc)?)
 }
 
 fn first_step(alloc: Global) -> Result<Step, AllocError> {
     let patterns = texts_of(alloc, ["[0-9]", "<"].as_slice())?;
-    let mut step = step_of(alloc, Some(Kind::DateTime));
+    let mut step = plain_step(alloc, Some(Kind::DateTime));
     step.min = Some(1);
     step.max = Some(35);
     step.patterns = patterns;
@@ -197,7 +182,7 @@ fn first_step(alloc: Global) -> Result<Step, AllocError> {
 
 fn last_step(alloc: Global) -> Result<Step, AllocError> {
     let patterns = texts_of(alloc, [".*Z"].as_slice())?;
-    let mut step = step_of(alloc, None);
+    let mut step = plain_step(alloc, None);
     step.patterns = patterns;
     Ok(step)
 }

@@ -5,7 +5,7 @@ use Rattle.data_types.specs.Escaping.{escaped_bytes}
 use Rattle.facets.specs.declared.step.Step.{Step}
 use Rattle.xsd_model.specs.declared.schema.Part.{Part}
 use Rattle.xsd_model.specs.SchemaText.{amount_text, facet_text, facets_text, first_text, has_facets, line, model_text, schema_part_text}
-use Rattle.xsd_writer.specs.inner.Fragments.{step_level}
+use Rattle.xsd_writer.specs.inner.Segments.{step_level}
 use Rattle.xsd_writer.specs.inner.StepLines.{opening_lines, step_end, step_start}
 
 regroup : (a b c d e f : List ℕ) → (a ++ (b ++ (c ++ (d ++ [])))) ++ (e ++ f) ≡ a ++ (b ++ (c ++ (d ++ (e ++ f))))

@@ -3,7 +3,7 @@ use Rattle.std.proofs.Common.{◌≡◌, ℕ, suc, ◌+◌, List, [], ◌∷◌,
 use Rattle.facets.specs.declared.step.Step.{Step}
 use Rattle.xsd_model.specs.SchemaText.{facets_text, first_text, later_text, line, steps_from, steps_text}
 use Rattle.xsd_writer.specs.inner.NumberedTexts.{texts_below}
-use Rattle.xsd_writer.specs.inner.Fragments.{step_level}
+use Rattle.xsd_writer.specs.inner.Segments.{step_level}
 use Rattle.xsd_writer.specs.inner.StepLines.{closings, opening_lines}
 
 regroup : (o a b i c f d k : List ℕ) → o ++ ((a ++ (b ++ (i ++ (c ++ (f ++ d))))) ++ k) ≡ (o ++ (a ++ b)) ++ (i ++ ((c ++ (f ++ d)) ++ k))

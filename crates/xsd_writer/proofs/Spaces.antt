@@ -2,7 +2,7 @@
 use Rattle.std.proofs.Common.{◌≡◌, ℕ, zero, suc, ◌+◌, ◌*◌, ◌++◌, replicate, ap, ◌∙◌, arith}
 use Rattle.std.proofs.lemmas.List.{replicate-append-replicate}
 use Rattle.xsd_writer.specs.inner.NumberedTexts.{texts_below}
-use Rattle.xsd_writer.specs.inner.Fragments.{step_level}
+use Rattle.xsd_writer.specs.inner.Segments.{step_level}
 
 -- so many spaces, so many times
 pub spaces_times : (k n : ℕ) → texts_below (λ _. replicate k 32) n ≡ replicate (k * n) 32

@@ -3,9 +3,9 @@ ghost use Rattle.std.specs.Prelude.{◌+◌, ◌∷◌, [], codes, flat_map};
 ghost use Rattle.outside.specs.Pushes.{Pushes};
 ghost use Rattle.xsd_model.specs.SchemaText.{facet_text, facets_text, line, value_facet};
 ghost use Rattle.xsd_writer.specs.inner.FacetLines.{facet_lines};
-ghost use Rattle.xsd_writer.specs.inner.Fragments.{fragment_text, step_level};
+ghost use Rattle.xsd_writer.specs.inner.Segments.{segment_text, step_level};
 
-use crate::fragment::Fragment;
+use crate::segment::Segment;
 use facets::{Bound, Codes, Step, Texts};
 use outside::{Render, Sink, SinkError, push_bytes, render_all};
 
@@ -71,10 +71,10 @@ fn push_facet<O: Sink>(facet: &Facet<'_>, steps: usize, sink: &mut O) -> Result<
 {
     match facet {
         Facet::Digits(word, Some(number)) => {
-            push_line(word, &Fragment::Number(u64::from(*number)), steps, sink)
+            push_line(word, &Segment::Number(u64::from(*number)), steps, sink)
         }
         Facet::Length(word, Some(number)) => {
-            push_line(word, &Fragment::Number(*number), steps, sink)
+            push_line(word, &Segment::Number(*number), steps, sink)
         }
         Facet::Bound {
             strict,
@@ -82,7 +82,7 @@ fn push_facet<O: Sink>(facet: &Facet<'_>, steps: usize, sink: &mut O) -> Result<
             bound: Some(bound),
         } => {
             let word = if bound.strict { strict } else { word };
-            push_line(word, &Fragment::Decimal(bound.value), steps, sink)
+            push_line(word, &Segment::Decimal(bound.value), steps, sink)
         }
         Facet::Codes(codes) => push_codes(codes, steps, sink),
         Facet::Patterns(patterns) => push_patterns(patterns, steps, sink),
@@ -99,12 +99,7 @@ fn push_codes<O: Sink>(values: &Codes, steps: usize, sink: &mut O) -> Result<(),
         let Some(value) = values.get(at) else {
             return Ok(());
         };
-        if let Err(error) = push_line(
-            b"enumeration",
-            &Fragment::Value(value.bytes()),
-            steps,
-            sink,
-        ) {
+        if let Err(error) = push_line(b"enumeration", &Segment::Value(value.bytes()), steps, sink) {
             return Err(error);
         }
     }
@@ -117,7 +112,7 @@ fn push_patterns<O: Sink>(values: &Texts, steps: usize, sink: &mut O) -> Result<
         (flat_map (value_facet (step_level steps + 1) (codes "pattern")) values.now) }
 {
     for value in values.as_slice() {
-        if let Err(error) = push_line(b"pattern", &Fragment::Value(value.bytes()), steps, sink) {
+        if let Err(error) = push_line(b"pattern", &Segment::Value(value.bytes()), steps, sink) {
             return Err(error);
         }
     }
@@ -127,11 +122,11 @@ fn push_patterns<O: Sink>(values: &Texts, steps: usize, sink: &mut O) -> Result<
 /// Pushes the line of a facet by its name and its value.
 fn push_line<O: Sink>(
     word: &[u8],
-    value: &Fragment<'_>,
+    value: &Segment<'_>,
     steps: usize,
     sink: &mut O,
 ) -> Result<(), SinkError>
-    ensures { Pushes O.held O.faults O.room sink.old sink.new result (facet_text (step_level steps + 1) word.now (fragment_text value.now)) }
+    ensures { Pushes O.held O.faults O.room sink.old sink.new result (facet_text (step_level steps + 1) word.now (segment_text value.now)) }
 {
     if let Err(error) = push_start(word, steps, sink) {
         return Err(error);
@@ -147,11 +142,11 @@ fn push_start<O: Sink>(word: &[u8], steps: usize, sink: &mut O) -> Result<(), Si
     ensures { Pushes O.held O.faults O.room sink.old sink.new result
         (line (step_level steps + 1) (codes "<xs:" ∷ word.now ∷ codes " value=\"" ∷ [])) }
 {
-    let fragments = [
-        Fragment::Inside { steps, more: 1 },
-        Fragment::Bytes(b"<xs:"),
-        Fragment::Bytes(word),
-        Fragment::Bytes(b" value=\""),
+    let segments = [
+        Segment::Inside { steps, more: 1 },
+        Segment::Bytes(b"<xs:"),
+        Segment::Bytes(word),
+        Segment::Bytes(b" value=\""),
     ];
-    render_all(fragments.as_slice(), sink)
+    render_all(segments.as_slice(), sink)
 }

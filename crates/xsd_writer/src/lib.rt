@@ -9,7 +9,7 @@
 #![tactic(auto)]
 
 mod facet_lines;
-mod fragment;
+mod segment;
 mod step_lines;
 mod type_contents;
 mod writer;

@@ -3,11 +3,11 @@ ghost use Rattle.std.specs.Prelude.{◌≡◌};
 ghost use Rattle.outside.specs.Pushes.{Pushes};
 ghost use Rattle.xsd_model.specs.SchemaText.{first_text, has_facets, steps_text};
 ghost use Rattle.xsd_writer.specs.inner.NumberedTexts.{texts_below};
-ghost use Rattle.xsd_writer.specs.inner.Fragments.{step_level};
+ghost use Rattle.xsd_writer.specs.inner.Segments.{step_level};
 ghost use Rattle.xsd_writer.specs.inner.StepLines.{closing_lines, closings, inner_end, opening_lines, step_end, step_start};
 
 use crate::facet_lines::push_facets;
-use crate::fragment::Fragment;
+use crate::segment::Segment;
 use data_types::Kind;
 use facets::Step;
 use outside::{Sink, SinkError, render_all};
@@ -45,13 +45,13 @@ fn push_openings<O: Sink>(count: usize, sink: &mut O) -> Result<(), SinkError>
 fn push_opening<O: Sink>(steps: usize, sink: &mut O) -> Result<(), SinkError>
     ensures { Pushes O.held O.faults O.room sink.old sink.new result (opening_lines steps) }
 {
-    let fragments = [
-        Fragment::Inside { steps, more: 0 },
-        Fragment::Bytes(b"<xs:restriction>\n"),
-        Fragment::Inside { steps, more: 1 },
-        Fragment::Bytes(b"<xs:simpleType>\n"),
+    let segments = [
+        Segment::Inside { steps, more: 0 },
+        Segment::Bytes(b"<xs:restriction>\n"),
+        Segment::Inside { steps, more: 1 },
+        Segment::Bytes(b"<xs:simpleType>\n"),
     ];
-    render_all(fragments.as_slice(), sink)
+    render_all(segments.as_slice(), sink)
 }
 
 /// Pushes the step with the base, inside so many others.
@@ -93,13 +93,13 @@ fn push_restriction<O: Sink>(
 ) -> Result<(), SinkError>
     ensures { Pushes O.held O.faults O.room sink.old sink.new result (step_start steps base behind.now) }
 {
-    let fragments = [
-        Fragment::Inside { steps, more: 0 },
-        Fragment::Bytes(b"<xs:restriction"),
-        Fragment::Base(base),
-        Fragment::Bytes(behind),
+    let segments = [
+        Segment::Inside { steps, more: 0 },
+        Segment::Bytes(b"<xs:restriction"),
+        Segment::Base(base),
+        Segment::Bytes(behind),
     ];
-    render_all(fragments.as_slice(), sink)
+    render_all(segments.as_slice(), sink)
 }
 
 /// Pushes the lines that later steps end with, from the first of them on.
@@ -133,20 +133,20 @@ fn push_closing<O: Sink>(step: &Step, steps: usize, sink: &mut O) -> Result<(), 
 fn push_inner_end<O: Sink>(steps: usize, sink: &mut O) -> Result<(), SinkError>
     ensures { Pushes O.held O.faults O.room sink.old sink.new result (inner_end steps) }
 {
-    let fragments = [
-        Fragment::Inside { steps, more: 1 },
-        Fragment::Bytes(b"</xs:simpleType>\n"),
+    let segments = [
+        Segment::Inside { steps, more: 1 },
+        Segment::Bytes(b"</xs:simpleType>\n"),
     ];
-    render_all(fragments.as_slice(), sink)
+    render_all(segments.as_slice(), sink)
 }
 
 /// Pushes the end of a step.
 fn push_end<O: Sink>(steps: usize, sink: &mut O) -> Result<(), SinkError>
     ensures { Pushes O.held O.faults O.room sink.old sink.new result (step_end steps) }
 {
-    let fragments = [
-        Fragment::Inside { steps, more: 0 },
-        Fragment::Bytes(b"</xs:restriction>\n"),
+    let segments = [
+        Segment::Inside { steps, more: 0 },
+        Segment::Bytes(b"</xs:restriction>\n"),
     ];
-    render_all(fragments.as_slice(), sink)
+    render_all(segments.as_slice(), sink)
 }

@@ -4,7 +4,7 @@ ghost use Rattle.outside.specs.Pushes.{Pushes};
 ghost use Rattle.xsd_model.specs.SchemaText.{amount_text, any_text, line, model_text, schema_part_text};
 ghost use Rattle.xsd_writer.specs.inner.TypeContents.{contents_text};
 
-use crate::fragment::Fragment;
+use crate::segment::Segment;
 use crate::step_lines::push_steps;
 use outside::{Sink, SinkError, push_bytes, render_all};
 use xsd_model::{Part, Parts, SchemaShape};
@@ -32,13 +32,13 @@ pub fn push_word<'a, O: Sink>(
 ) -> Result<(), SinkError>
     ensures { Pushes O.held O.faults O.room sink.old sink.new result (line level (before.now ∷ word.now ∷ behind.now ∷ [])) }
 {
-    let fragments = [
-        Fragment::Indent(level),
-        Fragment::Bytes(before),
-        Fragment::Bytes(word),
-        Fragment::Bytes(behind),
+    let segments = [
+        Segment::Indent(level),
+        Segment::Bytes(before),
+        Segment::Bytes(word),
+        Segment::Bytes(behind),
     ];
-    render_all(fragments.as_slice(), sink)
+    render_all(segments.as_slice(), sink)
 }
 
 /// Pushes a content model, `sequence` or `choice`: part 1 §3.8.
@@ -73,41 +73,41 @@ fn push_parts<O: Sink>(parts: &Parts, sink: &mut O) -> Result<(), SinkError>
 fn push_part<O: Sink>(part: &Part, sink: &mut O) -> Result<(), SinkError>
     ensures { Pushes O.held O.faults O.room sink.old sink.new result (schema_part_text part.now) }
 {
-    let fragments = [
-        Fragment::Indent(3),
-        Fragment::Bytes(b"<xs:element name=\""),
-        Fragment::Value(part.tag.bytes()),
-        Fragment::Bytes(b"\" type=\""),
-        Fragment::Value(part.target.bytes()),
-        Fragment::Bytes(b"\""),
-        Fragment::Min(part.min),
-        Fragment::Max(part.max),
-        Fragment::Bytes(b"/>\n"),
+    let segments = [
+        Segment::Indent(3),
+        Segment::Bytes(b"<xs:element name=\""),
+        Segment::Value(part.tag.bytes()),
+        Segment::Bytes(b"\" type=\""),
+        Segment::Value(part.target.bytes()),
+        Segment::Bytes(b"\""),
+        Segment::Min(part.min),
+        Segment::Max(part.max),
+        Segment::Bytes(b"/>\n"),
     ];
-    render_all(fragments.as_slice(), sink)
+    render_all(segments.as_slice(), sink)
 }
 
 /// Pushes the contents of an amount's type: part 1 §3.4, simple content with an attribute.
 fn push_amount<'a, O: Sink>(base: &'a [u8], code: &'a [u8], sink: &mut O) -> Result<(), SinkError>
     ensures { Pushes O.held O.faults O.room sink.old sink.new result (amount_text base.now code.now) }
 {
-    let fragments = [
-        Fragment::Indent(2),
-        Fragment::Bytes(b"<xs:simpleContent>\n"),
-        Fragment::Indent(3),
-        Fragment::Bytes(b"<xs:extension base=\""),
-        Fragment::Value(base),
-        Fragment::Bytes(b"\">\n"),
-        Fragment::Indent(4),
-        Fragment::Bytes(b"<xs:attribute name=\"Ccy\" type=\""),
-        Fragment::Value(code),
-        Fragment::Bytes(b"\" use=\"required\"/>\n"),
-        Fragment::Indent(3),
-        Fragment::Bytes(b"</xs:extension>\n"),
-        Fragment::Indent(2),
-        Fragment::Bytes(b"</xs:simpleContent>\n"),
+    let segments = [
+        Segment::Indent(2),
+        Segment::Bytes(b"<xs:simpleContent>\n"),
+        Segment::Indent(3),
+        Segment::Bytes(b"<xs:extension base=\""),
+        Segment::Value(base),
+        Segment::Bytes(b"\">\n"),
+        Segment::Indent(4),
+        Segment::Bytes(b"<xs:attribute name=\"Ccy\" type=\""),
+        Segment::Value(code),
+        Segment::Bytes(b"\" use=\"required\"/>\n"),
+        Segment::Indent(3),
+        Segment::Bytes(b"</xs:extension>\n"),
+        Segment::Indent(2),
+        Segment::Bytes(b"</xs:simpleContent>\n"),
     ];
-    render_all(fragments.as_slice(), sink)
+    render_all(segments.as_slice(), sink)
 }
 
 /// Pushes the contents of a type of one element of any name: part 1 §3.10.

@@ -5,7 +5,7 @@ ghost use Rattle.data_types.specs.Escaping.{escaped_bytes};
 ghost use Rattle.xsd_model.specs.SchemaText.{head_text, line, schema_text, type_text};
 ghost use Rattle.xsd_writer.specs.inner.TypeContents.{type_word};
 
-use crate::fragment::Fragment;
+use crate::segment::Segment;
 use crate::type_contents::{push_contents, push_word};
 use outside::{Sink, SinkError, WriteError, push_bytes, render_all};
 use xsd_model::{Schema, SchemaShape, SchemaType, SchemaTypes};
@@ -39,16 +39,16 @@ fn push_schema<O: Sink>(schema: &Schema, sink: &mut O) -> Result<(), SinkError>
 fn push_head<O: Sink>(namespace: &[u8], sink: &mut O) -> Result<(), SinkError>
     ensures { Pushes O.held O.faults O.room sink.old sink.new result (head_text namespace.now) }
 {
-    let fragments = [
-        Fragment::Bytes(b"<?xml version=\"1.0\" encoding=\"UTF-8\"?>\n<xs:schema xmlns=\""),
-        Fragment::Value(namespace),
-        Fragment::Bytes(
+    let segments = [
+        Segment::Bytes(b"<?xml version=\"1.0\" encoding=\"UTF-8\"?>\n<xs:schema xmlns=\""),
+        Segment::Value(namespace),
+        Segment::Bytes(
             b"\" xmlns:xs=\"http://www.w3.org/2001/XMLSchema\" elementFormDefault=\"qualified\" targetNamespace=\"",
         ),
-        Fragment::Value(namespace),
-        Fragment::Bytes(b"\">\n  <xs:element name=\"Document\" type=\"Document\"/>\n"),
+        Segment::Value(namespace),
+        Segment::Bytes(b"\">\n  <xs:element name=\"Document\" type=\"Document\"/>\n"),
     ];
-    render_all(fragments.as_slice(), sink)
+    render_all(segments.as_slice(), sink)
 }
 
 /// Pushes the types.
@@ -92,13 +92,13 @@ fn push_name<'a, O: Sink>(word: &'a [u8], name: &'a [u8], sink: &mut O) -> Resul
     ensures { Pushes O.held O.faults O.room sink.old sink.new result
         (line 1 (codes "<xs:" ∷ word.now ∷ codes " name=\"" ∷ escaped_bytes true name.now ∷ codes "\">\n" ∷ [])) }
 {
-    let fragments = [
-        Fragment::Indent(1),
-        Fragment::Bytes(b"<xs:"),
-        Fragment::Bytes(word),
-        Fragment::Bytes(b" name=\""),
-        Fragment::Value(name),
-        Fragment::Bytes(b"\">\n"),
+    let segments = [
+        Segment::Indent(1),
+        Segment::Bytes(b"<xs:"),
+        Segment::Bytes(word),
+        Segment::Bytes(b" name=\""),
+        Segment::Value(name),
+        Segment::Bytes(b"\">\n"),
     ];
-    render_all(fragments.as_slice(), sink)
+    render_all(segments.as_slice(), sink)
 }

@@ -3,7 +3,7 @@ use Rattle.std.specs.Prelude.{ℕ, ◌+◌, List, [], ◌∷◌, ◌++◌, lengt
 use Rattle.data_types.specs.declared.kind.Kind.{Kind}
 use Rattle.facets.specs.declared.step.Step.{Step}
 use Rattle.xsd_model.specs.SchemaText.{base_text, facets_text, line}
-use Rattle.xsd_writer.specs.inner.Fragments.{step_level}
+use Rattle.xsd_writer.specs.inner.Segments.{step_level}
 
 -- the first line of the step with the base, inside so many others, and the last line of any step
 abbrev pub step_start : ℕ → Option Kind → List ℕ → List ℕ

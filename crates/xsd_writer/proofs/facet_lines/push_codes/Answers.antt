@@ -5,7 +5,7 @@ use Rattle.std.specs.Option.{option_copied}
 use Rattle.std.proofs.lemmas.Option.{get_or_from_slice_get, slice_get_within}
 use Rattle.outside.proofs.Rendering.{one_more, one_stops}
 use Rattle.xsd_model.specs.SchemaText.{value_facet}
-use Rattle.xsd_writer.specs.inner.Fragments.{step_level}
+use Rattle.xsd_writer.specs.inner.Segments.{step_level}
 use Rattle.xsd_writer.proofs.facet_lines.push_codes.Goals as goal
 
 pub loop-at-preserved : goal.loop-at-preserved

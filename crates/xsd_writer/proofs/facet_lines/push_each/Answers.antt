@@ -2,7 +2,7 @@
 use Rattle.std.proofs.Common.{◌+◌, ap, arith}
 use Rattle.outside.proofs.Rendering.{one_more, one_stops}
 use Rattle.xsd_writer.specs.inner.FacetLines.{facet_lines}
-use Rattle.xsd_writer.specs.inner.Fragments.{step_level}
+use Rattle.xsd_writer.specs.inner.Segments.{step_level}
 use Rattle.xsd_writer.proofs.facet_lines.push_each.Goals as goal
 
 pub loop-facet-preserved : goal.loop-facet-preserved

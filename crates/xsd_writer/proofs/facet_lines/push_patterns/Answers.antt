@@ -2,7 +2,7 @@
 use Rattle.std.proofs.Common.{◌≡◌, ◌<◌, ◌≤◌, ◌+◌, ◌∙◌, ap, arith, codes, get_or, length}
 use Rattle.outside.proofs.Rendering.{one_more, one_stops, all_went}
 use Rattle.xsd_model.specs.SchemaText.{value_facet}
-use Rattle.xsd_writer.specs.inner.Fragments.{step_level}
+use Rattle.xsd_writer.specs.inner.Segments.{step_level}
 use Rattle.xsd_writer.proofs.facet_lines.push_patterns.Goals as goal
 
 pub loop-value-preserved : goal.loop-value-preserved

@@ -4,7 +4,7 @@ use Rattle.std.specs.Prelude.{codes, flat_map}
 use Rattle.outside.specs.Pushes.{Pushes}
 use Rattle.outside.proofs.Pushing.{done}
 use Rattle.xsd_model.specs.SchemaText.{value_facet}
-use Rattle.xsd_writer.specs.inner.Fragments.{step_level}
+use Rattle.xsd_writer.specs.inner.Segments.{step_level}
 use Rattle.xsd_writer.proofs.facet_lines.push_patterns.Given as goal
 
 abbrev pub invariant-loop-value : goal.invariant-loop-value

@@ -2,7 +2,7 @@
 use Rattle.std.proofs.Common.{◌+◌, refl}
 use Rattle.xsd_model.specs.SchemaText.{facets_text}
 use Rattle.xsd_writer.proofs.Blocks.{first_stops, second_stops, third_ends}
-use Rattle.xsd_writer.specs.inner.Fragments.{step_level}
+use Rattle.xsd_writer.specs.inner.Segments.{step_level}
 use Rattle.xsd_writer.specs.inner.StepLines.{inner_end, step_end}
 use Rattle.xsd_writer.proofs.step_lines.push_closing.Goals as goal
 

@@ -3,7 +3,7 @@ use Rattle.std.proofs.Common.{◌≡◌, ◌+◌, ◌∙◌, codes, sym, true}
 use Rattle.xsd_model.specs.SchemaText.{facets_text, has_facets}
 use Rattle.xsd_writer.proofs.Blocks.{first_stops, second_stops, third_ends}
 use Rattle.xsd_writer.proofs.Lines.{first_some}
-use Rattle.xsd_writer.specs.inner.Fragments.{step_level}
+use Rattle.xsd_writer.specs.inner.Segments.{step_level}
 use Rattle.xsd_writer.specs.inner.StepLines.{step_end, step_start}
 use Rattle.xsd_writer.proofs.step_lines.push_first.Goals as goal
 

@@ -4,7 +4,7 @@ use Rattle.xsd_model.specs.SchemaText.{first_text}
 use Rattle.xsd_writer.proofs.Blocks.{first_stops, second_stops, third_ends}
 use Rattle.xsd_writer.proofs.NestedSteps.{steps_are}
 use Rattle.xsd_writer.specs.inner.NumberedTexts.{texts_below}
-use Rattle.xsd_writer.specs.inner.Fragments.{step_level}
+use Rattle.xsd_writer.specs.inner.Segments.{step_level}
 use Rattle.xsd_writer.specs.inner.StepLines.{closings, opening_lines}
 use Rattle.xsd_writer.proofs.step_lines.push_steps.Goals as goal
 

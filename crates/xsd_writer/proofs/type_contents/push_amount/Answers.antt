@@ -1,10 +1,10 @@
 use Rattle.std.proofs.Common.{ℕ, List, flat_map, subst}
 use Rattle.outside.specs.Pushes.{Pushes}
 use Rattle.xsd_writer.proofs.Lines.{amount_is}
-use Rattle.xsd_writer.specs.inner.Fragments.{fragment_text}
+use Rattle.xsd_writer.specs.inner.Segments.{segment_text}
 use Rattle.xsd_writer.proofs.type_contents.push_amount.Goals as goal
 
 pub returns : goal.returns
 returns g c =
     let pushes = λ (t : List ℕ). Pushes g.O.Sink.held g.O.Sink.faults g.O.Sink.room c.args.sink.now c.render_all.new.sink c.render_all.result t in
-    subst pushes (amount_is c.args.base.now c.args.code.now) (subst (λ fragments. pushes (flat_map fragment_text fragments)) c.as_slice.ensures c.render_all.ensures)
+    subst pushes (amount_is c.args.base.now c.args.code.now) (subst (λ segments. pushes (flat_map segment_text segments)) c.as_slice.ensures c.render_all.ensures)

@@ -5,7 +5,7 @@ use Rattle.lexical_core.proofs.Written.{canonical_is}
 use Rattle.lexical_core.specs.CanonicalDecimals.{canonical_parts}
 use Rattle.lexical_core.specs.Decimals.{decimal_spelling}
 use Rattle.outside.specs.Pushes.{Pushes}
-use Rattle.xsd_writer.proofs.fragment.push_decimal.Goals as goal
+use Rattle.xsd_writer.proofs.segment.push_decimal.Goals as goal
 
 pub returns : goal.returns
 returns g c =

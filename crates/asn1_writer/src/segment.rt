@@ -1,15 +1,15 @@
-//! Fragments of a type's text, pushed one after the other.
+//! Segments of a type's text, pushed one after the other.
 ghost use Rattle.outside.specs.Pushes.{Pushes};
-ghost use Rattle.asn1_writer.specs.inner.Fragments.{asn_fragment_text};
+ghost use Rattle.asn1_writer.specs.inner.Segments.{asn_segment_text};
 
 use crate::constraint::{push_bound, push_digits, push_pattern, push_profile, push_size};
 use facets::Bound;
 use lexical_core::Text;
 use outside::{Render, Sink, SinkError, push_bytes};
 
-/// A fragment of a type's text.
+/// A segment of a type's text.
 #[derive(Clone, Copy)]
-pub enum Fragment<'a> {
+pub enum Segment<'a> {
     /// Bytes as they are.
     Bytes(&'a [u8]),
     /// A size, where it is bounded.
@@ -33,21 +33,21 @@ pub enum Fragment<'a> {
     Pattern(&'a Option<Text>),
 }
 
-impl Render for Fragment<'_> {
-    ghost use Rattle.asn1_writer.specs.inner.Fragments.{asn_fragment_text};
+impl Render for Segment<'_> {
+    ghost use Rattle.asn1_writer.specs.inner.Segments.{asn_segment_text};
 
-    ghost rendered = { asn_fragment_text };
+    ghost rendered = { asn_segment_text };
 
     fn render<O: Sink>(&self, sink: &mut O) -> Result<(), SinkError>
-        ensures { Pushes O.held O.faults O.room sink.old sink.new result (asn_fragment_text self.now) }
+        ensures { Pushes O.held O.faults O.room sink.old sink.new result (asn_segment_text self.now) }
     {
         match self {
-            Fragment::Bytes(bytes) => push_bytes(bytes, sink),
-            Fragment::Size { min, max } => push_size(*min, *max, sink),
-            Fragment::Profile(word) => push_profile(word, sink),
-            Fragment::Digits { word, most } => push_digits(word, *most, sink),
-            Fragment::Bound { side, bound } => push_bound(side, *bound, sink),
-            Fragment::Pattern(pattern) => push_pattern(pattern, sink),
+            Segment::Bytes(bytes) => push_bytes(bytes, sink),
+            Segment::Size { min, max } => push_size(*min, *max, sink),
+            Segment::Profile(word) => push_profile(word, sink),
+            Segment::Digits { word, most } => push_digits(word, *most, sink),
+            Segment::Bound { side, bound } => push_bound(side, *bound, sink),
+            Segment::Pattern(pattern) => push_pattern(pattern, sink),
         }
     }
 }

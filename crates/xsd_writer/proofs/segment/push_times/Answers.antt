@@ -1,7 +1,7 @@
 -- Each text follows those before it.
 use Rattle.std.proofs.Common.{arith}
 use Rattle.xsd_writer.proofs.NumberedTexts.{number_more, number_stops}
-use Rattle.xsd_writer.proofs.fragment.push_times.Goals as goal
+use Rattle.xsd_writer.proofs.segment.push_times.Goals as goal
 
 pub loop-time-preserved : goal.loop-time-preserved
 loop-time-preserved g c =

@@ -2,7 +2,7 @@ use Rattle.std.proofs.Common.{subst, ap, sym, ◌∙◌}
 use Rattle.outside.specs.Pushes.{Pushes}
 use Rattle.xsd_model.specs.SchemaText.{max_text}
 use Rattle.xsd_writer.proofs.Occurrences.{max_written}
-use Rattle.xsd_writer.proofs.fragment.push_max.Goals as goal
+use Rattle.xsd_writer.proofs.segment.push_max.Goals as goal
 
 pub returns-in-None : goal.returns-in-None
 returns-in-None g c = rw c.in-None.is c.push_bytes.ensures.push

@@ -1,4 +1,4 @@
-//! Fragments of a line, pushed one after the other.
+//! Segments of a line, pushed one after the other.
 ghost use Rattle.std.specs.Prelude.{◌≡◌, ◌+◌, ◌*◌, true, [], ◌∷◌, codes, replicate};
 ghost use Rattle.std.specs.Fmt.{decimal};
 ghost use Rattle.std.specs.List.{concat};
@@ -8,15 +8,15 @@ ghost use Rattle.outside.specs.Pushes.{Pushes};
 ghost use Rattle.data_types.specs.Escaping.{escaped_bytes};
 ghost use Rattle.xsd_model.specs.SchemaText.{base_text, base_word, max_text, min_text};
 ghost use Rattle.xsd_writer.specs.inner.NumberedTexts.{texts_below};
-ghost use Rattle.xsd_writer.specs.inner.Fragments.{fragment_text, step_level};
+ghost use Rattle.xsd_writer.specs.inner.Segments.{segment_text, step_level};
 
 use data_types::{Kind, push_escaped};
 use lexical_core::Decimal;
 use outside::{Part, Render, Sink, SinkError, push_bytes, push_number, render_all};
 
-/// A fragment of a line.
+/// A segment of a line.
 #[derive(Clone, Copy)]
-pub enum Fragment<'a> {
+pub enum Segment<'a> {
     /// Bytes as they are.
     Bytes(&'a [u8]),
     /// The value of an attribute.
@@ -37,24 +37,24 @@ pub enum Fragment<'a> {
     Base(Option<Kind>),
 }
 
-impl Render for Fragment<'_> {
-    ghost use Rattle.xsd_writer.specs.inner.Fragments.{fragment_text};
+impl Render for Segment<'_> {
+    ghost use Rattle.xsd_writer.specs.inner.Segments.{segment_text};
 
-    ghost rendered = { fragment_text };
+    ghost rendered = { segment_text };
 
     fn render<O: Sink>(&self, sink: &mut O) -> Result<(), SinkError>
-        ensures { Pushes O.held O.faults O.room sink.old sink.new result (fragment_text self.now) }
+        ensures { Pushes O.held O.faults O.room sink.old sink.new result (segment_text self.now) }
     {
         match self {
-            Fragment::Bytes(bytes) => push_bytes(bytes, sink),
-            Fragment::Value(bytes) => push_value(bytes, sink),
-            Fragment::Number(number) => push_number(*number, sink),
-            Fragment::Decimal(number) => push_decimal(number, sink),
-            Fragment::Indent(level) => push_indent(*level, sink),
-            Fragment::Inside { steps, more } => push_inside(*steps, *more, sink),
-            Fragment::Min(min) => push_min(*min, sink),
-            Fragment::Max(max) => push_max(*max, sink),
-            Fragment::Base(base) => push_base(*base, sink),
+            Segment::Bytes(bytes) => push_bytes(bytes, sink),
+            Segment::Value(bytes) => push_value(bytes, sink),
+            Segment::Number(number) => push_number(*number, sink),
+            Segment::Decimal(number) => push_decimal(number, sink),
+            Segment::Indent(level) => push_indent(*level, sink),
+            Segment::Inside { steps, more } => push_inside(*steps, *more, sink),
+            Segment::Min(min) => push_min(*min, sink),
+            Segment::Max(max) => push_max(*max, sink),
+            Segment::Base(base) => push_base(*base, sink),
         }
     }
 }

@@ -4,7 +4,7 @@ use Rattle.outside.specs.Pushes.{Pushes}
 use Rattle.outside.proofs.Pushing.{stopped, then_push, fails_push}
 use Rattle.xsd_writer.specs.inner.NumberedTexts.{texts_below}
 use Rattle.xsd_writer.proofs.Spaces.{spaces_inside}
-use Rattle.xsd_writer.proofs.fragment.push_inside.Goals as goal
+use Rattle.xsd_writer.proofs.segment.push_inside.Goals as goal
 
 pub returns-in-Ok : goal.returns-in-Ok
 returns-in-Ok g c =

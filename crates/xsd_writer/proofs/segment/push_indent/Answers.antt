@@ -1,7 +1,7 @@
 use Rattle.std.proofs.Common.{subst, ap, ◌∙◌, ◌*◌, ℕ, replicate}
 use Rattle.outside.specs.Pushes.{Pushes}
 use Rattle.xsd_writer.proofs.Spaces.{spaces_times}
-use Rattle.xsd_writer.proofs.fragment.push_indent.Goals as goal
+use Rattle.xsd_writer.proofs.segment.push_indent.Goals as goal
 
 pub returns : goal.returns
 returns g c =

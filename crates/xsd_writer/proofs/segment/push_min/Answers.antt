@@ -1,7 +1,7 @@
 use Rattle.std.proofs.Common.{subst}
 use Rattle.outside.specs.Pushes.{Pushes}
 use Rattle.xsd_writer.proofs.Occurrences.{min_written}
-use Rattle.xsd_writer.proofs.fragment.push_min.Goals as goal
+use Rattle.xsd_writer.proofs.segment.push_min.Goals as goal
 
 pub returns : goal.returns
 returns g c =
