@@ -17,7 +17,7 @@ use Rattle.markup.proofs.TokensBehind.{items_in, tokens_behind, events_items}
 use Rattle.fragments.specs.Plain.{IsPlain}
 use Rattle.respell.specs.Laws.{ReadsTree, IsPlainItem}
 use Rattle.respell.specs.Respelling.{HasSortedAttributes, AreOf, told_of}
-use Rattle.respell.specs.inner.FragmentReading.{NoneOutside, IsFragment, event_items}
+use Rattle.respell.specs.inner.FragmentReading.{NoneForeign, IsFragment, event_items}
 use Rattle.respell.proofs.Fronts.{front_of}
 use Rattle.respell.proofs.OneTree.{read_back}
 use Rattle.respell.proofs.Outside.{outside_parts, tree_inside, told_counted, told_tree}
@@ -54,10 +54,10 @@ told_front reader bytes behind_them told h f =
     let e = front_told (bytes ++ behind_them) f tokens rest front in
     (e.0, ap (λ (l : List Placed). items l ++ e.0) is ∙ e.1)
 
-pub told_inside : (reader : Reader) (bytes more : List ℕ) (told : List Placed) → HasTakenUnder no_limit reader bytes told → IsFragment (bytes ++ more) → NoneOutside 0 (items told)
+pub told_inside : (reader : Reader) (bytes more : List ℕ) (told : List Placed) → HasTakenUnder no_limit reader bytes told → IsFragment (bytes ++ more) → NoneForeign 0 (items told)
 told_inside reader bytes more told h f =
     let e = told_front reader bytes more told h f in
-    (outside_parts 0 (items told) e.0 (subst (λ (l : List Item). NoneOutside 0 l) (sym e.1) (tree_inside f.tree))).0
+    (outside_parts 0 (items told) e.0 (subst (λ (l : List Item). NoneForeign 0 l) (sym e.1) (tree_inside f.tree))).0
 
 -- ---- what is told is plain
 
@@ -103,7 +103,7 @@ pub record EndsTree (bytes : List ℕ) (told : List Placed) : Type 0 where
   pub are : AreOf (items told) tree
 
 -- all events are those of a plain tree
-pub ends_tree : (bytes : List ℕ) (told : List Placed) → IsWhollyUnder no_limit bytes told → NoneOutside 0 (items told) → EndsTree bytes told
+pub ends_tree : (bytes : List ℕ) (told : List Placed) → IsWhollyUnder no_limit bytes told → NoneForeign 0 (items told) → EndsTree bytes told
 ends_tree bytes told (tokens, marks, clean, over, is) inside =
     let (t, tree_is) = whole_tree tokens clean over in
     let same : items told ≡ items_in [] tokens = ap items is ∙ events_items [] 0 tokens in

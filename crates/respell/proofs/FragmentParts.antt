@@ -13,7 +13,7 @@ use Rattle.markup.specs.declared.plain_tag.TagKind.{TagKind}
 use Rattle.markup.specs.declared.plain_tag.TagKind.TheVariants as kind
 use Rattle.markup.specs.declared.reader.Reader.{Reader}
 use Rattle.respell.specs.Kept.{HasWritten, IsInDefault, opened_by}
-use Rattle.respell.specs.inner.FragmentReading.{NoneOutside, HasReadFront, IsFragment, ReadsFragmentOn, AdvancesSo}
+use Rattle.respell.specs.inner.FragmentReading.{NoneForeign, HasReadFront, IsFragment, ReadsFragmentOn, AdvancesSo}
 use Rattle.respell.specs.declared.respell.Respell.{Respell}
 use Rattle.respell.specs.declared.fragment_reader.FragmentReader.{FragmentReader}
 use Rattle.respell.specs.declared.fragment_reader.Advance.{Advance}
@@ -24,13 +24,13 @@ use Rattle.respell.proofs.Outside.{outside-append}
 -- ---- more bytes, and their events
 
 more_read : (old new : FragmentReader) (front forgotten more : List ℕ) (placed : List Placed) (is : List Item) (h : HasReadFront old front forgotten) → items placed ≡ is → HasTakenUnder no_limit new.reader (front ++ more) (h.told ++ placed)
-    → HasWritten new.respell forgotten (items h.told ++ is) → NoneOutside 0 (items h.told ++ is) → HasReadFront new (front ++ more) forgotten
+    → HasWritten new.respell forgotten (items h.told ++ is) → NoneForeign 0 (items h.told ++ is) → HasReadFront new (front ++ more) forgotten
 more_read old new front forgotten more placed is h same reads writes inside =
     let e : items h.told ++ is ≡ items (h.told ++ placed) = ap (λ (l : List Item). items h.told ++ l) (sym same) ∙ sym (items-append_placed h.told placed) in record {
       told = h.told ++ placed;
       reads = reads;
       writes = subst (λ (l : List Item). HasWritten new.respell forgotten l) e writes;
-      inside = subst (λ (l : List Item). NoneOutside 0 l) e inside;
+      inside = subst (λ (l : List Item). NoneForeign 0 l) e inside;
     }
 
 -- ---- nothing
@@ -65,7 +65,7 @@ RunWritten old new run count = (forgotten : List ℕ) (is : List Item) (r : IsRu
 
 -- characters would stand inside the root
 abbrev pub HasRoot : Respell → Type 0
-HasRoot r = (forgotten : List ℕ) (is : List Item) (characters : List ℕ) → HasWritten r forgotten is → NoneOutside 0 is → NoneOutside 0 (is ++ map (λ c. Char c) characters)
+HasRoot r = (forgotten : List ℕ) (is : List Item) (characters : List ℕ) → HasWritten r forgotten is → NoneForeign 0 is → NoneForeign 0 (is ++ map (λ c. Char c) characters)
 
 pub reads_run : (old new : FragmentReader) (bytes : List ℕ) (room n count : ℕ) → n ≤ length (take room bytes) → bytes_taken new.reader ≡ bytes_taken old.reader + n → RunRead old.reader new.reader (take n (take room bytes)) count
     → RunWritten old.respell new.respell (take n bytes) count → HasRoot old.respell → ReadsFragmentOn old new bytes n
@@ -89,7 +89,7 @@ opened_behind : (opened : List Expanded) (told : List Placed) → open_behind op
 opened_behind opened [] = refl
 opened_behind opened (p ∷ told) = opened_behind (open_after opened p.item) told
 
-tag_inside : (k : TagKind) (n : Expanded) (is : List Item) → NoneOutside 0 is → NoneOutside 0 (is ++ tag_items k n)
+tag_inside : (k : TagKind) (n : Expanded) (is : List Item) → NoneForeign 0 is → NoneForeign 0 (is ++ tag_items k n)
 tag_inside kind.Start n is h = outside-append 0 is (Starts n [] ∷ []) h tt
 tag_inside kind.Empty n is h = outside-append 0 is (Starts n [] ∷ Ends n ∷ []) h tt
 tag_inside kind.End n is h = outside-append 0 is (Ends n ∷ []) h tt
@@ -143,8 +143,8 @@ pub reads_first : (old new : FragmentReader) (bytes behind : List ℕ) (byte : �
 reads_first old new bytes behind byte e moved reads = rw e ((omega arith), record { within = omega arith; moved = moved; reads = reads })
 
 pub refuses_first : (old new : FragmentReader) (bytes behind : List ℕ) (byte : ℕ) → bytes ≡ byte ∷ behind
-    → ((front forgotten : List ℕ) → HasReadFront old front forgotten → IsFragment ((front ++ byte ∷ []) ++ behind) → ⊥) → AdvancesSo old new bytes NoFragment
-refuses_first old new bytes behind byte e stops = rw e (λ front forgotten h f. stops front forgotten h (subst IsFragment (sym (append_assoc front (byte ∷ []) behind)) f))
+    → ((front forgotten more : List ℕ) → HasReadFront old front forgotten → IsFragment ((front ++ byte ∷ []) ++ more) → ⊥) → AdvancesSo old new bytes NoFragment
+refuses_first old new bytes behind byte e stops = rw e (λ front forgotten more h f. stops front forgotten (behind ++ more) h (subst IsFragment (sym (append_assoc front (byte ∷ []) (behind ++ more))) f))
 
 -- ---- one after another
 
@@ -160,7 +160,7 @@ reads_then old between new bytes n m e a b = record {
 
 pub advances_then : (old between new : FragmentReader) (bytes : List ℕ) (n : ℕ) (a : Advance) → n ≡ 0 → ReadsFragmentOn old between bytes n → AdvancesSo between new bytes a → AdvancesSo old new bytes a
 advances_then old between new bytes n (Taken m) e a b = (b.0, reads_then old between new bytes n m e a b.1)
-advances_then old between new bytes n NoFragment e a b = λ front forgotten h f. b front forgotten (same_read old between bytes n e a front forgotten h) f
+advances_then old between new bytes n NoFragment e a b = λ front forgotten behind h f. b front forgotten behind (same_read old between bytes n e a front forgotten h) f
 
 -- what is behind a front that is taken
 pub front_taken : (front bytes left behind : List ℕ) (n : ℕ) → front ++ left ≡ bytes → behind ≡ drop n left → (front ++ take n left) ++ behind ≡ bytes

@@ -19,7 +19,7 @@ use Rattle.fragments.specs.Plain.{IsPlain}
 use Rattle.fragments.specs.Fragment.{fragment}
 use Rattle.respell.specs.Respelling.{HasSortedAttributes, AreOf, respelled_text, defaults_behind}
 use Rattle.respell.specs.Kept.{HasWritten}
-use Rattle.respell.specs.inner.FragmentReading.{NoneOutside, HasReadFront, IsFragment, event_items}
+use Rattle.respell.specs.inner.FragmentReading.{NoneForeign, HasReadFront, IsFragment, event_items}
 use Rattle.respell.specs.declared.fragment_reader.FragmentReader.{FragmentReader}
 use Rattle.respell.proofs.Outside.{outside_parts}
 use Rattle.respell.proofs.RespelledTrees.{respelled_tree, respelled-append, whole_text}
@@ -31,8 +31,8 @@ one_more : (all front told rest : List Item) (i : Item) (left : List Item) → f
 one_more all front told rest i left e is =
     ap (λ (l : List Item). all ++ l) (sym e ∙ ap (λ (l : List Item). front ++ l) is) ∙ (sym (append_assoc all front (i ∷ rest)) ∙ sym (append_assoc (all ++ front) (i ∷ []) rest))
 
-pub event_outside : (all front told rest : List Item) (i : Item) (left : List Item) → front ++ left ≡ told → left ≡ i ∷ rest → NoneOutside 0 (all ++ told) → NoneOutside 0 ((all ++ front) ++ i ∷ [])
-event_outside all front told rest i left e is h = (outside_parts 0 ((all ++ front) ++ i ∷ []) rest (subst (λ (l : List Item). NoneOutside 0 l) (one_more all front told rest i left e is) h)).0
+pub event_outside : (all front told rest : List Item) (i : Item) (left : List Item) → front ++ left ≡ told → left ≡ i ∷ rest → NoneForeign 0 (all ++ told) → NoneForeign 0 ((all ++ front) ++ i ∷ [])
+event_outside all front told rest i left e is h = (outside_parts 0 ((all ++ front) ++ i ∷ []) rest (subst (λ (l : List Item). NoneForeign 0 l) (one_more all front told rest i left e is) h)).0
 
 pub event_sorted : (front told rest : List Item) (i : Item) (left : List Item) → front ++ left ≡ told → left ≡ i ∷ rest → AllByRecursion HasSortedAttributes told → HasSortedAttributes i
 event_sorted front told rest i left e is h = (all_behind front (i ∷ rest) (subst (AllByRecursion HasSortedAttributes) (sym e ∙ ap (λ (l : List Item). front ++ l) is) h)).0
@@ -50,13 +50,13 @@ if_ok P Q (Ok x) h f = f x h
 if_ok P Q (Err e) h f = h
 
 pub read_more : (old new : FragmentReader) (bytes forgotten : List ℕ) (byte : ℕ) (before after given : List Event) (h : HasReadFront old bytes forgotten) → GoesOnUnder no_limit new.reader (bytes ++ byte ∷ []) h.told before after → before ≡ [] → given ≡ after
-    → HasWritten new.respell forgotten (items h.told ++ event_items given) × NoneOutside 0 (items h.told ++ event_items given) → HasReadFront new (bytes ++ byte ∷ []) forgotten
+    → HasWritten new.respell forgotten (items h.told ++ event_items given) × NoneForeign 0 (items h.told ++ event_items given) → HasReadFront new (bytes ++ byte ∷ []) forgotten
 read_more old new bytes forgotten byte before after given h g none same t =
     let is : items h.told ++ event_items given ≡ items (h.told ++ g.more) = ap (λ (es : List Event). items h.told ++ event_items es) same ∙ sym (items_more new.reader (bytes ++ byte ∷ []) h.told before after g none) in record {
       told = h.told ++ g.more;
       reads = g.taken_are;
       writes = subst (λ (l : List Item). HasWritten new.respell forgotten l) is t.0;
-      inside = subst (λ (l : List Item). NoneOutside 0 l) is t.1;
+      inside = subst (λ (l : List Item). NoneForeign 0 l) is t.1;
     }
 
 pub given_sorted : (old new : FragmentReader) (bytes forgotten : List ℕ) (byte : ℕ) (before after given : List Event) (h : HasReadFront old bytes forgotten) → GoesOnUnder no_limit new.reader (bytes ++ byte ∷ []) h.told before after → before ≡ [] → given ≡ after
@@ -64,9 +64,9 @@ pub given_sorted : (old new : FragmentReader) (bytes forgotten : List ℕ) (byte
 given_sorted old new bytes forgotten byte before after given h g none same = subst (λ (es : List Event). AllByRecursion HasSortedAttributes (event_items es)) (sym same) (more_sorted new.reader (bytes ++ byte ∷ []) h.told before after g none)
 
 pub given_inside : (old new : FragmentReader) (bytes forgotten more : List ℕ) (byte : ℕ) (before after given : List Event) (h : HasReadFront old bytes forgotten) → GoesOnUnder no_limit new.reader (bytes ++ byte ∷ []) h.told before after → before ≡ [] → given ≡ after
-    → IsFragment ((bytes ++ byte ∷ []) ++ more) → NoneOutside 0 (items h.told ++ event_items given)
+    → IsFragment ((bytes ++ byte ∷ []) ++ more) → NoneForeign 0 (items h.told ++ event_items given)
 given_inside old new bytes forgotten more byte before after given h g none same f =
-    subst (λ (l : List Item). NoneOutside 0 l) (items_more new.reader (bytes ++ byte ∷ []) h.told before after g none ∙ ap (λ (es : List Event). items h.told ++ event_items es) (sym same))
+    subst (λ (l : List Item). NoneForeign 0 l) (items_more new.reader (bytes ++ byte ∷ []) h.told before after g none ∙ ap (λ (es : List Event). items h.told ++ event_items es) (sym same))
     (told_inside new.reader (bytes ++ byte ∷ []) more (h.told ++ g.more) g.taken_are f)
 
 pub byte_refused : (old : FragmentReader) (bytes forgotten more : List ℕ) (before after : List Event) (e : MarkError) (fault : Told) (h : HasReadFront old bytes forgotten) (byte : ℕ) → e ≡ Refused fault → StopsUnder no_limit (bytes ++ byte ∷ []) h.told before after e
@@ -78,17 +78,12 @@ byte_refused old bytes forgotten more before after e fault h byte is stops f =
 -- ---- what was written
 
 -- the text is a front of the fragment
-text_front : (r : FragmentReader) (front forgotten others : List ℕ) (h : HasReadFront r front forgotten) → IsFragment (front ++ others) → (more : List ℕ) × ((forgotten ++ r.respell.text) ++ more ≡ front ++ others)
+pub text_front : (r : FragmentReader) (front forgotten others : List ℕ) (h : HasReadFront r front forgotten) → IsFragment (front ++ others) → (more : List ℕ) × ((forgotten ++ r.respell.text) ++ more ≡ front ++ others)
 text_front r front forgotten others h f =
     let m = told_front r.reader front others h.told h.reads f in (
       respelled_text (defaults_behind [] (items h.told)) m.0,
       ap (λ (l : List ℕ). l ++ respelled_text (defaults_behind [] (items h.told)) m.0) h.writes.text_is ∙ (sym (respelled-append [] (items h.told) m.0) ∙ (ap (respelled_text []) m.1 ∙ (respelled_tree f.tree ∙ f.spelled))),
     )
-
-pub front_differs : (r : FragmentReader) (front forgotten others bytes uncompared : List ℕ) → HasReadFront r front forgotten → front ++ others ≡ bytes → forgotten ++ uncompared ≡ bytes → ((rest : List ℕ) → uncompared ≡ r.respell.text ++ rest → ⊥) → IsFragment bytes → ⊥
-front_differs r front forgotten others bytes uncompared h e u k f =
-    let m = text_front r front forgotten others h (subst IsFragment (sym e) f) in
-    k m.0 (append_cancel_left forgotten uncompared (r.respell.text ++ m.0) (u ∙ (sym e ∙ (sym m.1 ∙ append_assoc forgotten r.respell.text m.0))))
 
 -- the rest behind what is forgotten
 pub rest_uncompared : (forgotten text rest uncompared bytes : List ℕ) → text ++ rest ≡ uncompared → forgotten ++ uncompared ≡ bytes → (forgotten ++ text) ++ rest ≡ bytes

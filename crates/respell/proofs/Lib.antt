@@ -31,3 +31,7 @@ pub mod Within
 pub mod TakenRuns
 pub mod TakenTags
 pub mod FragmentParts
+pub mod SpelledTokens
+pub mod ToldText
+pub mod FragmentPieces
+pub mod CheckedFragments

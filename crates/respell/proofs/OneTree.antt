@@ -86,7 +86,7 @@ started before (Refer r ∷ ts) h = started (Refer r ∷ before) ts h
 started before (LineEnd l ∷ ts) h = started (LineEnd l ∷ before) ts h
 started before (Character c ∷ ts) h = started (Character c ∷ before) ts h
 
-heads_same : (i j : Item) (r s : List Item) → i ∷ r ≡ j ∷ s → i ≡ j
+pub heads_same : (i j : Item) (r s : List Item) → i ∷ r ≡ j ∷ s → i ≡ j
 heads_same i j r s e = cc
 
 ended_cases : (o : Option Expanded) → (end_tag_items o ≡ []) ⊎ ((n : Expanded) × (end_tag_items o ≡ Ends n ∷ []))

@@ -25,7 +25,8 @@ use Rattle.respell.proofs.PlainParts.{local_is_part, line_feed_is_xml}
 use Rattle.respell.proofs.PlainTags.{IsSoundTag, element_is_plain, entries_are_plain, given_are_sound}
 use Rattle.respell.proofs.SortedEntries.{entries_are_sorted}
 
-abbrev AllPlain : List Item → Type 0
+-- each speaks of a plain tree
+abbrev pub AllPlain : List Item → Type 0
 AllPlain items = AllByRecursion IsPlainItem items
 
 all_append : (a b : List Item) → AllPlain a → AllPlain b → AllPlain (a ++ b)
@@ -34,11 +35,13 @@ all_append (x ∷ a) b h g = (h.0, all_append a b h.1 g)
 
 -- ---- a token
 
-start_kept : (over a b c : Bool) (x y z : Rule) → cond a (Some x) (cond (b || c) (Some y) (cond over (Some z) None)) ≡ None → (a ≡ false) × (c ≡ false)
+-- a start tag that breaks no rule: no two of its names clash, it has a name, no attribute is a bad one, and the root is not closed before it
+pub start_kept : (over a b c : Bool) (x y z : Rule) → cond a (Some x) (cond (b || c) (Some y) (cond over (Some z) None)) ≡ None → (a ≡ false) × (b ≡ false) × (c ≡ false) × (over ≡ false)
 start_kept over true b c x y z e = absurd cc
 start_kept over false true c x y z e = absurd cc
 start_kept over false false true x y z e = absurd cc
-start_kept over false false false x y z e = (refl, refl)
+start_kept true false false false x y z e = absurd cc
+start_kept false false false false x y z e = (refl, refl, refl, refl)
 
 record IsKept (before : List Token) (tag : StartTag) : Type 0 where
   tag_is : IsSoundTag (opening tag)
@@ -49,7 +52,7 @@ kept_of before tag after h r =
     let tags : List Opening = opening tag ∷ open_tags before in
     let facts = start_tag_facts tag (never_in (in_cdata before) _ h).1 in
     let parts = start_kept (is_over before) (has_clash tags (opening tag).given) (is_none (element_name tags (opening tag).name)) (list_any (is_bad_attribute tags) (opening tag).given) DuplicateAttribute BadPrefix AfterRoot r in
-    record { tag_is = record { name = local_is_part tag.name facts.name; given = given_are_sound tags tag.attributes facts.attributes parts.1 }; clash = parts.0 }
+    record { tag_is = record { name = local_is_part tag.name facts.name; given = given_are_sound tags tag.attributes facts.attributes parts.2 }; clash = parts.0 }
 
 started_plain : (o : Option Expanded) (es : List Entry) (empty : Bool) → ((name : Expanded) → o ≡ Some name → IsPlainName name) → ArePlainEntries es → AllPlain (start_tag_items o es empty)
 started_plain None es empty k p = tt

@@ -2,4 +2,5 @@ pub mod Respelling
 pub mod Kept
 pub mod ShortTags
 pub mod Laws
+pub mod FragmentChecks
 pub mod inner

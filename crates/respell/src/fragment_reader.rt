@@ -1,15 +1,11 @@
-//! Fragments told from other bytes: these are read as XML, and their events are written again.
-ghost use Rattle.std.specs.Prelude.{◌≡◌, ◌+◌, ◌<◌, ◌≤◌, ◌^◌, ◌↔◌, ℕ, List, [], ◌∷◌, ◌++◌, IsTrue, IsFalse, IfOk, IfSome, IfNone, length};
+//! A reader of a fragment: the bytes are read as XML, and their events are written again and compared with them.
+ghost use Rattle.std.specs.Prelude.{◌≡◌, ◌+◌, ◌<◌, ◌≤◌, ◌^◌, ◌↔◌, ℕ, List, [], ◌∷◌, ◌++◌, drop, IsTrue, IsFalse, IfOk, IfSome, IfNone, length, vec_len};
 ghost use Rattle.std.specs.List.{AllByRecursion};
-ghost use Rattle.lexical_core.specs.Tree.{Item, Tree};
-ghost use Rattle.markup.specs.Marks.{no_limit};
-ghost use Rattle.markup.specs.Events.{Placed};
-ghost use Rattle.markup.specs.Reading.{bytes_taken, HasTakenUnder, IsWhollyUnder};
-ghost use Rattle.fragments.specs.Plain.{IsPlain};
-ghost use Rattle.fragments.specs.Fragment.{fragment};
+ghost use Rattle.lexical_core.specs.Tree.{Item};
+ghost use Rattle.markup.specs.Reading.{bytes_taken, open_token_held, token_length};
 ghost use Rattle.respell.specs.Respelling.{HasSortedAttributes};
 ghost use Rattle.respell.specs.Kept.{HasWritten};
-ghost use Rattle.respell.specs.inner.FragmentReading.{NoneOutside, event_items, HasReadFront, IsFragment, ReadsFragmentOn, AdvancesSo};
+ghost use Rattle.respell.specs.inner.FragmentReading.{NoneForeign, event_items, HasReadFront, HasReadAll, IsFragment, ReadsFragmentOn, AdvancesSo, ReadsSomeSo, ReadsWaitingSo};
 
 use crate::respell::Respell;
 use markup::{Event, Events, MarkError, Reader};
@@ -17,16 +13,6 @@ use std::alloc::{AllocError, Global};
 
 /// How many bytes of a run of characters are written again at once.
 const RUN_LIMIT: usize = 4096;
-
-/// Whether the bytes are the canonical fragment of some element. They are read, written again, and compared as they come,
-/// so that no more text is kept than one tag's, or 4,096 bytes of a run of characters. A tag may have any length.
-pub fn is_fragment(alloc: Global, bytes: &[u8]) -> Result<bool, AllocError>
-    requires { length bytes.now < 2 ^ 40 }
-    ensures { IfOk result (λ b. IsTrue b ↔ ((t : Tree) × IsPlain t × (fragment t ≡ bytes.now))) }
-{
-    let mut reader = FragmentReader::new(alloc);
-    reader.read(bytes)
-}
 
 /// What comes of the front of bytes.
 #[derive(Clone, Copy)]
@@ -39,7 +25,7 @@ enum Advance {
 
 /// A reader of a fragment, which writes it again.
 #[derive(Drop)]
-struct FragmentReader {
+pub(crate) struct FragmentReader {
     reader: Reader,
     events: Events,
     respell: Respell,
@@ -47,9 +33,9 @@ struct FragmentReader {
 
 impl FragmentReader {
     /// Nothing is read. It takes no memory.
-    fn new(alloc: Global) -> FragmentReader
-        ensures read { HasReadFront result [] [] }
-        ensures none { (bytes_taken result.reader ≡ 0) × (result.respell.text ≡ []) }
+    pub(crate) fn new(alloc: Global) -> FragmentReader
+        ensures read { HasReadAll result [] [] }
+        ensures held { open_token_held result.reader ≡ 0 }
     {
         FragmentReader {
             reader: Reader::without_limit(alloc),
@@ -58,13 +44,72 @@ impl FragmentReader {
         }
     }
 
-    /// Reads all bytes, and answers whether they are a fragment.
-    fn read(&mut self, bytes: &[u8]) -> Result<bool, AllocError>
-        requires { (bytes_taken self.old.reader ≡ 0) × (self.old.respell.text ≡ []) × (length bytes.now < 2 ^ 40) }
-        ensures { HasReadFront self.old [] [] → IfOk result (λ b. IsTrue b ↔ IsFragment bytes.now) }
+    /// Reads a piece, and answers whether a fragment may begin with the bytes so far. Those of a token that has not ended
+    /// wait: they are compared with the text of its events once these come.
+    pub(crate) fn read(&mut self, waiting: &mut Vec<u8>, piece: &[u8]) -> Result<bool, AllocError>
+        requires { bytes_taken self.old.reader + length piece.now ≤ 2 ^ 40 }
+        ensures goes_on { (before : List ℕ) → HasReadAll self.old waiting.old.items before → IfOk result (λ b. IsTrue b → HasReadAll self.new waiting.new.items (before ++ piece.now)) }
+        ensures stops { (before behind : List ℕ) → HasReadAll self.old waiting.old.items before → IfOk result (λ b. IsFalse b → IsFragment ((before ++ piece.now) ++ behind) → ⊥) }
     {
-        let mut left = bytes;
-        let mut uncompared = bytes;
+        let count = match self.read_waiting(waiting, piece)? {
+            Advance::Taken(count) => count,
+            Advance::NoFragment => return Ok(false),
+        };
+        if !waiting.is_empty() {
+            return Ok(true);
+        }
+        let (_, behind) = piece.split_at(count);
+        self.read_ahead(waiting, behind)
+    }
+
+    /// Reads bytes at the front of the piece for as long as some wait, and answers how many they are.
+    fn read_waiting(&mut self, waiting: &mut Vec<u8>, piece: &[u8]) -> Result<Advance, AllocError>
+        requires { bytes_taken self.old.reader + length piece.now ≤ 2 ^ 40 }
+        ensures { IfOk result (λ a. ReadsWaitingSo self.old self.new waiting.old.items waiting.new.items piece.now a) }
+    {
+        let mut left = piece;
+        while !left.is_empty() {
+            if waiting.is_empty() {
+                return Ok(Advance::Taken(piece.len() - left.len()));
+            }
+            let count = match self.read_some(waiting, left)? {
+                Advance::Taken(count) => count,
+                Advance::NoFragment => return Ok(Advance::NoFragment),
+            };
+            let (_, behind) = left.split_at(count);
+            left = behind;
+        }
+        Ok(Advance::Taken(piece.len()))
+    }
+
+    /// Reads some bytes at the front of the piece behind those that wait.
+    fn read_some(&mut self, waiting: &mut Vec<u8>, piece: &[u8]) -> Result<Advance, AllocError>
+        requires some { 0 < length piece.now }
+        requires room { bytes_taken self.old.reader + length piece.now ≤ 2 ^ 40 }
+        ensures { IfOk result (λ a. ReadsSomeSo self.old self.new waiting.old.items waiting.new.items piece.now a) }
+    {
+        let count = match self.advance(piece)? {
+            Advance::Taken(count) => count,
+            Advance::NoFragment => return Ok(Advance::NoFragment),
+        };
+        let (taken, _) = piece.split_at(count);
+        waiting.extend_from_slice(taken)?;
+        if self.compare_waiting(waiting) {
+            Ok(Advance::Taken(count))
+        } else {
+            Ok(Advance::NoFragment)
+        }
+    }
+
+    /// Reads a piece where no bytes wait, and compares it where it stands.
+    fn read_ahead(&mut self, waiting: &mut Vec<u8>, piece: &[u8]) -> Result<bool, AllocError>
+        requires none { waiting.old.items ≡ [] }
+        requires room { bytes_taken self.old.reader + length piece.now ≤ 2 ^ 40 }
+        ensures goes_on { (before : List ℕ) → HasReadAll self.old [] before → IfOk result (λ b. IsTrue b → HasReadAll self.new waiting.new.items (before ++ piece.now)) }
+        ensures stops { (before behind : List ℕ) → HasReadAll self.old [] before → IfOk result (λ b. IsFalse b → IsFragment ((before ++ piece.now) ++ behind) → ⊥) }
+    {
+        let mut left = piece;
+        let mut uncompared = piece;
         while !left.is_empty() {
             let count = match self.advance(left)? {
                 Advance::Taken(count) => count,
@@ -77,10 +122,16 @@ impl FragmentReader {
             let (_, behind) = left.split_at(count);
             left = behind;
         }
-        if !self.finish() {
-            return Ok(false);
-        }
-        Ok(uncompared.is_empty())
+        waiting.extend_from_slice(uncompared)?;
+        Ok(true)
+    }
+
+    /// How many bytes are held of the open token.
+    pub(crate) fn token(&self) -> u64
+        ensures held { (waiting bytes : List ℕ) → HasReadAll self.now waiting bytes → result ≡ open_token_held self.now.reader }
+        ensures within { (waiting bytes : List ℕ) → HasReadAll self.now waiting bytes → result ≤ token_length self.now.reader }
+    {
+        self.reader.token()
     }
 
     /// Takes a whole part from the front of the bytes, or else the first of them.
@@ -206,31 +257,57 @@ impl FragmentReader {
         Some(rest)
     }
 
-    /// The end of the bytes: whether they are whole.
-    fn finish(&mut self) -> bool
-        ensures whole { (bytes : List ℕ) (told : List Placed) → HasTakenUnder no_limit self.old.reader bytes told → IsTrue result → IsWhollyUnder no_limit bytes told }
-        ensures stops { (bytes : List ℕ) (told : List Placed) → HasTakenUnder no_limit self.old.reader bytes told → IsFalse result → IsFragment bytes → ⊥ }
-        ensures respell { self.new.respell ≡ self.old.respell }
+    /// Takes the text so far, which is forgotten, from the front of the bytes that wait, and answers whether they begin with
+    /// it.
+    fn compare_waiting(&mut self, waiting: &mut Vec<u8>) -> bool
+        ensures some { IsTrue result → self.old.respell.text ++ waiting.new.items ≡ waiting.old.items }
+        ensures none { (rest : List ℕ) → waiting.old.items ≡ self.old.respell.text ++ rest → IsFalse result → ⊥ }
+        ensures written { (front forgotten : List ℕ) → HasReadFront self.old front forgotten → IsTrue result → HasReadFront self.new front (forgotten ++ self.old.respell.text) }
+        ensures forgotten { IsTrue result → self.new.respell.text ≡ [] }
+        ensures count { bytes_taken self.new.reader ≡ bytes_taken self.old.reader }
+    {
+        let all = waiting.len();
+        let Some(rest) = self.compare(waiting.as_slice()) else {
+            return false;
+        };
+        let count = all - rest.len();
+        if count > 0 {
+            take_front(waiting, count);
+        }
+        true
+    }
+
+    /// The end of the bytes: whether they are a fragment, where these wait.
+    pub(crate) fn finish(&mut self, waiting: &[u8]) -> bool
+        ensures { (bytes : List ℕ) → HasReadAll self.old waiting.now bytes → length bytes < 2 ^ 40 → IsTrue result ↔ IsFragment bytes }
     {
         match self.reader.finish(&mut self.events) {
-            Ok(()) => true,
+            Ok(()) => waiting.is_empty(),
             Err(_) => false,
         }
     }
 }
 
-/// Hands events on up to a character outside the root, and answers whether there is none.
+/// Hands events on up to one that no fragment has, and answers whether there is none.
 fn take_events(respell: &mut Respell, events: &[Event]) -> Result<bool, AllocError>
-    ensures goes_on { (forgotten : List ℕ) (items : List Item) → HasWritten respell.old forgotten items → NoneOutside 0 items → AllByRecursion HasSortedAttributes (event_items events.now) → IfOk result (λ b. IsTrue b → HasWritten respell.new forgotten (items ++ event_items events.now) × NoneOutside 0 (items ++ event_items events.now)) }
-    ensures stops { (forgotten : List ℕ) (items : List Item) → HasWritten respell.old forgotten items → NoneOutside 0 items → AllByRecursion HasSortedAttributes (event_items events.now) → IfOk result (λ b. IsFalse b → NoneOutside 0 (items ++ event_items events.now) → ⊥) }
+    ensures goes_on { (forgotten : List ℕ) (items : List Item) → HasWritten respell.old forgotten items → NoneForeign 0 items → AllByRecursion HasSortedAttributes (event_items events.now) → IfOk result (λ b. IsTrue b → HasWritten respell.new forgotten (items ++ event_items events.now) × NoneForeign 0 (items ++ event_items events.now)) }
+    ensures stops { (forgotten : List ℕ) (items : List Item) → HasWritten respell.old forgotten items → NoneForeign 0 items → AllByRecursion HasSortedAttributes (event_items events.now) → IfOk result (λ b. IsFalse b → NoneForeign 0 (items ++ event_items events.now) → ⊥) }
 {
     let mut left = events;
     while let Some((event, others)) = left.split_first() {
-        if respell.is_outside(&event.what) {
+        if respell.is_foreign(&event.what) {
             return Ok(false);
         }
         respell.step(&event.what)?;
         left = others;
     }
     Ok(true)
+}
+
+/// Takes bytes from the front, so that those behind them stand first.
+fn take_front(bytes: &mut Vec<u8>, count: usize)
+    requires { count ≤ vec_len bytes.old }
+    ensures { bytes.new.items ≡ drop count bytes.old.items }
+{
+    drop(bytes.drain(..count));
 }

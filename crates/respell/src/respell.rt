@@ -9,7 +9,7 @@ ghost use Rattle.fragments.specs.Plain.{AreSortedEntries};
 ghost use Rattle.fragments.specs.Fragment.{fragment, spelling_text, element_spelling, default_declaration, default_within, is_default, is_xml, start_text, end_text, written_text};
 ghost use Rattle.respell.specs.Respelling.{AreFront, AreOf, HasSortedAttributes, nearest};
 ghost use Rattle.respell.specs.Kept.{HasTakenItems, HasWritten, HasDefaults};
-ghost use Rattle.respell.specs.inner.FragmentReading.{NoneOutside};
+ghost use Rattle.respell.specs.inner.FragmentReading.{NoneForeign};
 
 mod plain;
 
@@ -80,20 +80,21 @@ impl Respell {
         self.text.bytes()
     }
 
-    /// Whether it is a character outside the element.
-    pub(crate) fn is_outside(&self, what: &What) -> bool
-        ensures outside { (forgotten : List ℕ) (items : List Item) → HasWritten self.now forgotten items → IsTrue result → NoneOutside 0 (items ++ item_of what.now ∷ []) → ⊥ }
-        ensures inside { (forgotten : List ℕ) (items : List Item) → HasWritten self.now forgotten items → NoneOutside 0 items → IsFalse result → NoneOutside 0 (items ++ item_of what.now ∷ []) }
+    /// Whether no fragment has it there: a character outside the element, or what is skipped.
+    pub(crate) fn is_foreign(&self, what: &What) -> bool
+        ensures foreign { (forgotten : List ℕ) (items : List Item) → HasWritten self.now forgotten items → IsTrue result → NoneForeign 0 (items ++ item_of what.now ∷ []) → ⊥ }
+        ensures own { (forgotten : List ℕ) (items : List Item) → HasWritten self.now forgotten items → NoneForeign 0 items → IsFalse result → NoneForeign 0 (items ++ item_of what.now ∷ []) }
     {
         match what {
             What::Char(_) => self.declares.as_slice().is_empty(),
+            What::Skipped => true,
             _ => false,
         }
     }
 
     /// Whether no element is open.
     pub(crate) fn is_closed(&self) -> bool
-        ensures { (forgotten : List ℕ) (items : List Item) (characters : List ℕ) → HasWritten self.now forgotten items → NoneOutside 0 items → IsFalse result → NoneOutside 0 (items ++ map (λ c. Char c) characters) }
+        ensures { (forgotten : List ℕ) (items : List Item) (characters : List ℕ) → HasWritten self.now forgotten items → NoneForeign 0 items → IsFalse result → NoneForeign 0 (items ++ map (λ c. Char c) characters) }
     {
         self.declares.as_slice().is_empty()
     }
