@@ -17,7 +17,8 @@ use Rattle.message_model.specs.Sound.{IsSoundForm, AreSound}
 use Rattle.message_model.specs.declared.model.Layout.{Layout}
 use Rattle.message_model.specs.declared.model.Layout.TheVariants as layout
 use Rattle.message_model.proofs.QuickSteps.{sequence_steps, choice_steps, sequence_ends, choice_ends}
-use Rattle.message_model.specs.declared.model.SlotInfo.{SlotInfo}
+use Rattle.message_model.specs.declared.slot_list.SlotInfo.{SlotInfo}
+use Rattle.message_model.proofs.Ahead.{length_view}
 use Rattle.message_model.proofs.Views.{drop_view}
 
 get_here : (slots : List SlotInfo) (i : ℕ) (d : SlotInfo) → i < length slots → slice_get slots i ≡ Some (get_or slots i d)
@@ -52,17 +53,17 @@ pub steps_at : (slots : List (Slot ℕ)) (last : Option ℕ) (count at : ℕ) (t
 steps_at slots last count at tag s x e g h = rw (e, g) h
 
 -- by the layout
-pub layout_sequence : (l : Layout) (slots : _) (last : Option ℕ) (count : ℕ) (tag : List ℕ) (x : NextSlot) (view : List SlotInfo) → l ≡ layout.Sequence slots → view ≡ slots.items → IsSoundForm (layout_form l) → x ≡ quick_sequence_next (slots_view view) last count tag
+pub layout_sequence : (l : Layout) (slots view : List SlotInfo) (last : Option ℕ) (count : ℕ) (tag : List ℕ) (x : NextSlot) → l ≡ layout.Sequence slots → view ≡ slots → IsSoundForm (layout_form l) → x ≡ quick_sequence_next (slots_view view) last count tag
     → (d : List ℕ) → Came (layout_form l) d → EndsWith d last count → x ≡ next (layout_form l) d tag
-layout_sequence l slots last count tag x view e v sound h d came ends =
+layout_sequence l slots view last count tag x e v sound h d came ends =
     subst (λ (y : Layout). IsSoundForm (layout_form y) → Came (layout_form y) d → x ≡ next (layout_form y) d tag) (sym e)
-    (λ sound came. (h ∙ ap (λ y. quick_sequence_next (slots_view y) last count tag) v) ∙ sequence_steps (slots_view slots.items) d last count tag sound came ends) sound came
+    (λ sound came. (h ∙ ap (λ y. quick_sequence_next (slots_view y) last count tag) v) ∙ sequence_steps (slots_view slots) d last count tag sound came ends) sound came
 
-pub layout_choice : (l : Layout) (slots : _) (last : Option ℕ) (count : ℕ) (tag : List ℕ) (x : NextSlot) (view : List SlotInfo) → l ≡ layout.Choice slots → view ≡ slots.items → IsSoundForm (layout_form l) → x ≡ quick_choice_next (slots_view view) last count tag
+pub layout_choice : (l : Layout) (slots view : List SlotInfo) (last : Option ℕ) (count : ℕ) (tag : List ℕ) (x : NextSlot) → l ≡ layout.Choice slots → view ≡ slots → IsSoundForm (layout_form l) → x ≡ quick_choice_next (slots_view view) last count tag
     → (d : List ℕ) → Came (layout_form l) d → EndsWith d last count → x ≡ next (layout_form l) d tag
-layout_choice l slots last count tag x view e v sound h d came ends =
+layout_choice l slots view last count tag x e v sound h d came ends =
     subst (λ (y : Layout). IsSoundForm (layout_form y) → Came (layout_form y) d → x ≡ next (layout_form y) d tag) (sym e)
-    (λ sound came. (h ∙ ap (λ y. quick_choice_next (slots_view y) last count tag) v) ∙ choice_steps (slots_view slots.items) d last count tag sound came ends) sound came
+    (λ sound came. (h ∙ ap (λ y. quick_choice_next (slots_view y) last count tag) v) ∙ choice_steps (slots_view slots) d last count tag sound came ends) sound came
 
 -- the form of a type that is there
 pub form_found : (id : List ℕ) (ts : List TypeInfo) (n : ℕ) (t : TypeInfo) (T : Tables) → tables_from id (map type_entry ts) ≡ T → slice_get ts n ≡ Some t → types_of T n ≡ layout_form t.layout
@@ -92,17 +93,17 @@ get_none xs ys i e h = ap (λ (v : List TypeInfo). slice_get v i) (sym e) ∙ be
     beyond (y ∷ ys) zero h = absurd (omega (arith, h))
     beyond (y ∷ ys) (suc i) h = beyond ys i (omega (arith, h))
 
-pub layout_sequence_end : (l : Layout) (slots : _) (last : Option ℕ) (count : ℕ) (x : EndOfSlots) (view : List SlotInfo) → l ≡ layout.Sequence slots → view ≡ slots.items → IsSoundForm (layout_form l) → x ≡ quick_sequence_end (slots_view view) last count
+pub layout_sequence_end : (l : Layout) (slots view : List SlotInfo) (last : Option ℕ) (count : ℕ) (x : EndOfSlots) → l ≡ layout.Sequence slots → view ≡ slots → IsSoundForm (layout_form l) → x ≡ quick_sequence_end (slots_view view) last count
     → (d : List ℕ) → Came (layout_form l) d → EndsWith d last count → x ≡ end_after (layout_form l) d
-layout_sequence_end l slots last count x view e v sound h d came ends =
+layout_sequence_end l slots view last count x e v sound h d came ends =
     subst (λ (y : Layout). IsSoundForm (layout_form y) → Came (layout_form y) d → x ≡ end_after (layout_form y) d) (sym e)
-    (λ sound came. (h ∙ ap (λ y. quick_sequence_end (slots_view y) last count) v) ∙ sequence_ends (slots_view slots.items) d last count sound came ends) sound came
+    (λ sound came. (h ∙ ap (λ y. quick_sequence_end (slots_view y) last count) v) ∙ sequence_ends (slots_view slots) d last count sound came ends) sound came
 
-pub layout_choice_end : (l : Layout) (slots : _) (last : Option ℕ) (count : ℕ) (x : EndOfSlots) (view : List SlotInfo) → l ≡ layout.Choice slots → view ≡ slots.items → IsSoundForm (layout_form l) → x ≡ quick_choice_end (slots_view view) last count
+pub layout_choice_end : (l : Layout) (slots view : List SlotInfo) (last : Option ℕ) (count : ℕ) (x : EndOfSlots) → l ≡ layout.Choice slots → view ≡ slots → IsSoundForm (layout_form l) → x ≡ quick_choice_end (slots_view view) last count
     → (d : List ℕ) → Came (layout_form l) d → EndsWith d last count → x ≡ end_after (layout_form l) d
-layout_choice_end l slots last count x view e v sound h d came ends =
+layout_choice_end l slots view last count x e v sound h d came ends =
     subst (λ (y : Layout). IsSoundForm (layout_form y) → Came (layout_form y) d → x ≡ end_after (layout_form y) d) (sym e)
-    (λ sound came. (h ∙ ap (λ y. quick_choice_end (slots_view y) last count) v) ∙ choice_ends (slots_view slots.items) d last count sound came ends) sound came
+    (λ sound came. (h ∙ ap (λ y. quick_choice_end (slots_view y) last count) v) ∙ choice_ends (slots_view slots) d last count sound came ends) sound came
 
 pub end_found : (f g : Form ℕ Simple) (last : Option ℕ) (count : ℕ) (x : EndOfSlots) → f ≡ g → ((d : List ℕ) → Came g d → EndsWith d last count → x ≡ end_after g d) → (d : List ℕ) → Came f d → EndsWith d last count → x ≡ end_after f d
 end_found f g last count x e h d came ends = subst (λ (y : Form ℕ Simple). Came y d → x ≡ end_after y d) (sym e) (λ came. h d came ends) came
@@ -125,10 +126,6 @@ due_beyond slots last count h =
   where
     never : (n : ℕ) → nat_lt n 0 ≡ false
     never n = grind (arith, nat_tests)
-
-length_view : (slots : List SlotInfo) → length (slots_view slots) ≡ length slots
-length_view [] = refl
-length_view (s ∷ slots) = ap suc (length_view slots)
 
 -- the end, by the last slot
 pub end_none : (slots : List SlotInfo) (last : Option ℕ) (count : ℕ) (due_is : Option ℕ) (x : EndOfSlots) → last ≡ None → due_is ≡ first_lacking 0 (length slots) (slots_view (drop 0 slots)) [] → x ≡ end_of_slots due_is → x ≡ quick_sequence_end (slots_view slots) last count

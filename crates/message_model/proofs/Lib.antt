@@ -1,6 +1,7 @@
 pub mod Quick
 pub mod Views
 pub mod QuickSteps
+pub mod Ahead
 pub mod Due
 pub mod CameMore
 pub mod Names

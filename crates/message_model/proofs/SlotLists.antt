@@ -15,12 +15,13 @@ use Rattle.reference_check.specs.Reach.{kind_currency}
 use Rattle.message_model.specs.SimpleTypes.{facets_of}
 use Rattle.message_model.specs.Views.{slot_info, slots_view}
 use Rattle.message_model.specs.inner.Numbers.{StandsAmong, IsCompilable}
-use Rattle.message_model.specs.declared.model.SlotInfo.{SlotInfo}
+use Rattle.message_model.specs.declared.slot_list.SlotInfo.{SlotInfo}
+use Rattle.message_model.specs.declared.slot_list.Ahead.{Ahead}
 
 -- a slot of the element's tag and bounds, whose number stands for what the element names
-pub slot_same : (h : ℕ → Place) (e : ElementDef) (tag : List ℕ) (n : ℕ) (id : List ℕ) → tag ≡ e.tag → references e ≡ id ∷ [] → h n ≡ entry id
-    → slot_to h (slot_info (record { tag = tag; min = e.min; max = e.max; target = n })) ≡ slot_of e
-slot_same h e tag n id same one leads =
+pub slot_same : (h : ℕ → Place) (e : ElementDef) (tag : List ℕ) (n : ℕ) (ahead : Ahead) (id : List ℕ) → tag ≡ e.tag → references e ≡ id ∷ [] → h n ≡ entry id
+    → slot_to h (slot_info (record { tag = tag; min = e.min; max = e.max; target = n; ahead = ahead })) ≡ slot_of e
+slot_same h e tag n ahead id same one leads =
     let by_tag : List ℕ → Slot Place = λ t. record { tag = t; min = e.min; max = e.max; target = h n } in
     let by_target : Place → Slot Place = λ q. record { tag = e.tag; min = e.min; max = e.max; target = q } in
     ap by_tag same ∙ ap by_target (leads ∙ sym (ap one_of one))

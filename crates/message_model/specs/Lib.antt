@@ -3,7 +3,9 @@ pub mod Writes
 pub mod Message
 pub mod Tables
 pub mod Sound
+pub mod SlotViews
 pub mod Views
+pub mod Options
 pub mod Continued
 pub mod FacetRules
 pub mod SimpleTypes

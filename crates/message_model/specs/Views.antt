@@ -1,11 +1,11 @@
 -- What the tables of the code and their answers are to contracts.
-use Rattle.std.specs.Prelude.{◌≡◌, ℕ, List, Option, Some, None, map}
+use Rattle.std.specs.Prelude.{◌≡◌, ℕ, List, Option, Some, None}
 use Rattle.facets.specs.declared.simple.Simple.{Simple}
 use Rattle.reference_check.specs.Forms as graph
 use Rattle.reference_check.specs.Forms.{Sequence, Choice, Money, Envelope}
 use Rattle.reference_check.specs.Steps as step
 use Rattle.message_model.specs.Tables.{Tables, TypeEntry}
-use Rattle.message_model.specs.declared.model.SlotInfo.{SlotInfo}
+pub use Rattle.message_model.specs.SlotViews.{slot_info, slots_view}
 use Rattle.message_model.specs.declared.model.Layout.{Layout}
 use Rattle.message_model.specs.declared.model.Layout.TheVariants as layout
 use Rattle.message_model.specs.declared.model.TypeInfo.{TypeInfo}
@@ -20,15 +20,9 @@ use Rattle.message_model.specs.declared.model.Form.TheVariants as form
 abbrev pub tables_from : List ℕ → List TypeEntry → Tables
 tables_from id types = record { id = id; types = types }
 
-abbrev pub slot_info : SlotInfo → graph.Slot ℕ
-slot_info s = record { tag = s.tag; min = s.min; max = s.max; target = s.target }
-
-abbrev pub slots_view : List SlotInfo → List (graph.Slot ℕ)
-slots_view slots = map slot_info slots
-
 abbrev pub layout_form : Layout → graph.Form ℕ Simple
-layout_form (layout.Sequence slots) = Sequence (slots_view slots.items)
-layout_form (layout.Choice slots) = Choice (slots_view slots.items)
+layout_form (layout.Sequence slots) = Sequence (slots_view slots)
+layout_form (layout.Choice slots) = Choice (slots_view slots)
 layout_form (layout.Simple simple) = graph.Simple simple
 layout_form (layout.Money code base) = Money code base
 layout_form layout.Envelope = Envelope

@@ -1,5 +1,6 @@
 //! The types of a message, compiled: `Model::compile` gives them by number, or the lowest of the rules M1 to M17 that is
-//! broken; `next` and `end` say which slot may come and what an end lacks.
+//! broken; `next` and `end` say which slot may come and what an end lacks, and `first_firm` which slot is the next that is no
+//! option.
 //!
 //! Type 0 is `Document` and type 1 the message; an element of a type is a slot, which has a tag, how often it comes, and the
 //! number of its own type. In a message with the one block `Id`, `next` of type 1 answers `Slot(0)` to the tag `Id` first,
@@ -20,8 +21,10 @@ mod layouts;
 pub mod model;
 mod numbers;
 mod object_types;
+mod options;
 mod patterns;
 mod simple_types;
+mod slot_list;
 mod slots;
 mod sorted_codes;
 mod tag_order;

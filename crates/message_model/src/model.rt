@@ -1,15 +1,16 @@
 //! The compiled types of a message, by number.
-ghost use Rattle.std.specs.Prelude.{◌≡◌, ◌↔◌, ◌<◌, ◌≤◌, ℕ, IsSome, IfSome, List, [], length, slice_get, drop, Some, true};
+ghost use Rattle.std.specs.Prelude.{◌≡◌, ◌↔◌, ◌<◌, ◌≤◌, ℕ, IsSome, IfSome, List, length, slice_get, Some, true};
 ghost use Rattle.std.specs.Option.{option_copied, option_map};
 ghost use Rattle.std.specs.Str.{bytes_eq};
 ghost use Rattle.reference_check.specs.Forms.{form_slots, text_type};
-ghost use Rattle.reference_check.specs.Steps.{Came, EndsWith, next, end_after, end_of_slots, find_slot, first_lacking, has_room, after_order};
+ghost use Rattle.reference_check.specs.Steps.{Came, EndsWith, next, end_after, end_of_slots, find_slot, has_room, after_order};
 ghost use Rattle.reference_check.specs.Forms.{Slot as Slotted};
 ghost use Rattle.message_model.specs.Tables.{TypeEntry, types_of, message_namespace};
 ghost use Rattle.message_model.specs.Sound.{AreSound, HaveCodes, HaveSortedCodes, HasRoot, AreLinked, IsSoundForm};
 ghost use Rattle.message_model.specs.inner.Quick.{quick_sequence_next, quick_choice_next, quick_sequence_end, quick_choice_end, quick_at, due, HasTagAt, AreTagged};
 ghost use Rattle.message_model.specs.Views.{layout_form, slot_view, slots_view, next_view, end_view, IsFormOf};
 
+use crate::slot_list::{SlotInfo, Slots};
 use crate::tag_order::TagOrder;
 use facets::Simple;
 use lexical_core::{Text, are_same};
@@ -24,20 +25,11 @@ pub const MOST_SLOTS: u32 = 4096;
 /// So many slots from the one that is due on are tried one after the other.
 const FEW_AHEAD: u32 = 6;
 
-/// An element of a component or a choice, as it is kept.
-#[derive(Drop)]
-pub(crate) struct SlotInfo {
-    pub(crate) tag: Text,
-    pub(crate) min: u32,
-    pub(crate) max: Option<u32>,
-    pub(crate) target: u32,
-}
-
 /// What a type is to an instance, as it is kept.
 #[derive(Drop)]
 pub(crate) enum Layout {
-    Sequence(Vec<SlotInfo>),
-    Choice(Vec<SlotInfo>),
+    Sequence(Slots),
+    Choice(Slots),
     Simple(Simple),
     Money { code: u32, base: Simple },
     Envelope,
@@ -208,8 +200,8 @@ impl Model {
     {
         let entry = self.types.get(number as usize)?;
         match &entry.layout {
-            Layout::Sequence(slots) => slot_of(slots, at),
-            Layout::Choice(slots) => slot_of(slots, at),
+            Layout::Sequence(slots) => slot_of(slots.as_slice(), at),
+            Layout::Choice(slots) => slot_of(slots.as_slice(), at),
             _ => None,
         }
     }
@@ -302,21 +294,6 @@ fn find_near(slots: &[SlotInfo], order: &TagOrder, last: Option<u32>, tag: &[u8]
     }
 }
 
-/// The first slot from one on, and before another, that has to come.
-#[tactic(auto, using(crate::proofs::Views::due_rest, crate::proofs::Views::due_end))]
-fn first_due(slots: &[SlotInfo], from: u32, to: u32) -> Option<u32>
-    requires from { from ≤ to }
-    requires to { to ≤ length slots.now }
-    ensures { result ≡ first_lacking from to (slots_view (drop from slots.now)) [] }
-{
-    for at in from..to {
-        if slots[at as usize].min > 0 {
-            return Some(at);
-        }
-    }
-    None
-}
-
 /// One more may come.
 fn is_open(count: u64, max: Option<u32>) -> bool
     ensures { result ≡ has_room count max }
@@ -369,35 +346,35 @@ fn choice_next(
 
 /// The first slot from the last one on, and before another, that lacks some.
 #[tactic(auto, using(crate::proofs::Views::slice_get_map, crate::proofs::Views::drop_view))]
-fn due_from(slots: &[SlotInfo], last: u32, count: u64, to: u32) -> Option<u32>
+fn due_from(slots: &Slots, last: u32, count: u64, to: u32) -> Option<u32>
     requires last { last < to }
     requires to { to ≤ length slots.now }
     requires short { length slots.now ≤ 4096 }
     ensures { result ≡ due (slots_view slots.now) last count to }
 {
-    let min = slots[last as usize].min;
+    let min = slots.as_slice()[last as usize].min;
     if count < min as u64 {
         Some(last)
     } else {
-        first_due(slots, last + 1, to)
+        slots.first_due(last + 1, to)
     }
 }
 
 /// What the slot is behind the last one, which came so many times.
 #[tactic(auto, using(crate::proofs::Views::slice_get_map))]
-fn sequence_at(slots: &[SlotInfo], last: Option<u32>, count: u64, at: u32) -> Next
+fn sequence_at(slots: &Slots, last: Option<u32>, count: u64, at: u32) -> Next
     requires short { length slots.now ≤ 4096 }
     requires at { at < length slots.now }
     ensures { (s : Slotted ℕ) → slice_get (slots_view slots.now) at ≡ Some s → next_view result ≡ quick_at (slots_view slots.now) last count at s }
 {
     let Some(last) = last else {
-        return after(at, first_due(slots, 0, at));
+        return after(at, slots.first_due(0, at));
     };
     if at < last {
         Next::OutOfOrder
     } else if at > last {
         after(at, due_from(slots, last, count, at))
-    } else if is_open(count, slots[at as usize].max) {
+    } else if is_open(count, slots.as_slice()[at as usize].max) {
         Next::Slot(at)
     } else {
         Next::TooMany
@@ -405,18 +382,12 @@ fn sequence_at(slots: &[SlotInfo], last: Option<u32>, count: u64, at: u32) -> Ne
 }
 
 /// What the tag is in a sequence.
-fn sequence_next(
-    slots: &[SlotInfo],
-    order: &TagOrder,
-    last: Option<u32>,
-    count: u64,
-    tag: &[u8],
-) -> Next
+fn sequence_next(slots: &Slots, order: &TagOrder, last: Option<u32>, count: u64, tag: &[u8]) -> Next
     requires short { length slots.now ≤ 4096 }
     requires apart { AreTagged (slots_view slots.now) }
     ensures { next_view result ≡ quick_sequence_next (slots_view slots.now) last count tag.now }
 {
-    match find_near(slots, order, last, tag) {
+    match find_near(slots.as_slice(), order, last, tag) {
         None => Next::Unknown,
         Some(at) => sequence_at(slots, last, count, at),
     }
@@ -429,7 +400,7 @@ fn layout_next(layout: &Layout, order: &TagOrder, last: Option<u32>, count: u64,
 {
     match layout {
         Layout::Sequence(slots) => sequence_next(slots, order, last, count, tag),
-        Layout::Choice(slots) => choice_next(slots, order, last, count, tag),
+        Layout::Choice(slots) => choice_next(slots.as_slice(), order, last, count, tag),
         _ => Next::Unknown,
     }
 }
@@ -445,13 +416,13 @@ fn lacks(due: Option<u32>) -> End
 }
 
 /// What the end is in a sequence.
-fn sequence_end(slots: &[SlotInfo], last: Option<u32>, count: u64) -> End
+fn sequence_end(slots: &Slots, last: Option<u32>, count: u64) -> End
     requires { length slots.now ≤ 4096 }
     ensures { end_view result ≡ quick_sequence_end (slots_view slots.now) last count }
 {
     let to = slots.len() as u32;
     let Some(last) = last else {
-        return lacks(first_due(slots, 0, to));
+        return lacks(slots.first_due(0, to));
     };
     if last < to {
         lacks(due_from(slots, last, count, to))
@@ -485,7 +456,7 @@ fn layout_end(layout: &Layout, last: Option<u32>, count: u64) -> End
 {
     match layout {
         Layout::Sequence(slots) => sequence_end(slots, last, count),
-        Layout::Choice(slots) => choice_end(slots, last, count),
+        Layout::Choice(slots) => choice_end(slots.as_slice(), last, count),
         _ => End::NoAlternative,
     }
 }

@@ -13,8 +13,9 @@ ghost use Rattle.message_model.specs.Compiled.{places_of};
 ghost use Rattle.message_model.specs.inner.Numbers.{AreNumbers, IsCompilable, AreCompilable, IsTypeOf, AreTypesOf, NamePlaces, ids_at};
 
 use crate::layouts::layout_of;
-use crate::model::{Layout, SlotInfo, TypeInfo};
+use crate::model::{Layout, TypeInfo};
 use crate::numbers::number_places;
+use crate::slot_list::{NOT_NOTED, SlotInfo, Slots};
 use crate::slots::slots_of;
 use crate::tag_order::TagOrder;
 use lexical_core::Text;
@@ -44,11 +45,13 @@ fn document_type(alloc: Global, definition: &MessageDef) -> Result<TypeInfo, All
         min: 1,
         max: Some(1),
         target: MESSAGE,
+        ahead: NOT_NOTED,
     })?;
+    let slots = Slots::new(slots);
     Ok(TypeInfo {
         word: text_of(alloc, b"Document")?,
         name: text_of(alloc, b"Document")?,
-        order: TagOrder::new(alloc, &slots)?,
+        order: TagOrder::new(alloc, slots.as_slice())?,
         layout: Layout::Sequence(slots),
     })
 }
@@ -67,7 +70,7 @@ fn message_type(
     Ok(TypeInfo {
         word: text_of(alloc, b"Message")?,
         name: definition.name.copy(alloc)?,
-        order: TagOrder::new(alloc, &slots)?,
+        order: TagOrder::new(alloc, slots.as_slice())?,
         layout: Layout::Sequence(slots),
     })
 }

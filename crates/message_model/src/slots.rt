@@ -7,8 +7,8 @@ ghost use Rattle.message_model.specs.Compiled.{place_of};
 ghost use Rattle.message_model.specs.inner.Numbers.{AreNumbers, NamesPlace, NamePlaces, ids_at};
 ghost use Rattle.message_model.specs.Views.{slot_info, slots_view};
 
-use crate::model::SlotInfo;
 use crate::numbers::number_of;
+use crate::slot_list::{NOT_NOTED, SlotInfo, Slots};
 use repo_objects::{ElementDef, Repository};
 use std::alloc::{AllocError, Global};
 
@@ -18,16 +18,16 @@ pub(crate) fn slots_of(
     repository: &Repository,
     numbers: &[u32],
     elements: &[ElementDef],
-) -> Result<Vec<SlotInfo>, AllocError>
+) -> Result<Slots, AllocError>
     ensures { (places : List ℕ) → AreNumbers places numbers.now → NamePlaces repository.now.objects places elements.now
-        → IfOk result (λ v. map (slot_to (place_of (ids_at repository.now.objects places))) (slots_view v.items) ≡ map slot_of elements.now) }
+        → IfOk result (λ v. map (slot_to (place_of (ids_at repository.now.objects places))) (slots_view v) ≡ map slot_of elements.now) }
 {
     let mut slots = Vec::with_capacity(alloc, elements.len())?;
     for element in elements {
         let slot = make_slot(alloc, repository, numbers, element)?;
         slots.push(slot)?;
     }
-    Ok(slots)
+    Ok(Slots::new(slots))
 }
 
 /// The slot of an element.
@@ -46,6 +46,7 @@ fn make_slot(
         min: element.min,
         max: element.max,
         target,
+        ahead: NOT_NOTED,
     })
 }
 

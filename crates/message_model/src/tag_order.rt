@@ -3,7 +3,8 @@ ghost use Rattle.std.specs.Prelude.{◌≤◌, IfSome};
 ghost use Rattle.message_model.specs.inner.Quick.{HasTagAt};
 ghost use Rattle.message_model.specs.Views.{slots_view};
 
-use crate::model::{MOST_SLOTS, SlotInfo, has_tag};
+use crate::model::{MOST_SLOTS, has_tag};
+use crate::slot_list::SlotInfo;
 use std::alloc::{AllocError, Global};
 
 /// How many slots are as well compared one by one.

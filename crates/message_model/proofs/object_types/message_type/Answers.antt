@@ -11,7 +11,7 @@ pub returns : goal.returns
 returns c m places found are names =
     let seen : NamePlaces c.args.repository.now.objects places c.as_slice.result.now = subst (λ xs. NamePlaces c.args.repository.now.objects places xs) (sym c.as_slice.ensures) names in
     record {
-      form = message_formed c.args.repository.now m (place_of (ids_at c.args.repository.now.objects places)) c.args.definition.now (slots_view c.in_ok-slots.slots.items) found
+      form = message_formed c.args.repository.now m (place_of (ids_at c.args.repository.now.objects places)) c.args.definition.now (slots_view c.in_ok-slots.slots) found
           (c.in_ok-slots.ensures places are seen ∙ ap (map slot_of) c.as_slice.ensures);
       word = c.in_ok-text_of.ensures;
       name = c.in_ok-copy.ensures ∙ ap message_name (sym found);

@@ -9,5 +9,5 @@ pub returns : goal.returns
 returns c places are names =
     let same = c.reference.ensures names.id names.one in
     let stands : StandsAmong c.args.repository.now.objects places c.reference.result.now = subst (λ id. StandsAmong c.args.repository.now.objects places id) (sym same) names.stands in
-    slot_same (place_of (ids_at c.args.repository.now.objects places)) c.args.element.now c.in_ok-copy.field-0 c.number_of-target.result names.id c.in_ok-copy.ensures names.one
+    slot_same (place_of (ids_at c.args.repository.now.objects places)) c.args.element.now c.in_ok-copy.field-0 c.number_of-target.result (record { due = 0; firm = 0 }) names.id c.in_ok-copy.ensures names.one
     (c.number_of-target.ensures places are stands ∙ ap entry same)
