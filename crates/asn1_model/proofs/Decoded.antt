@@ -16,7 +16,7 @@ use Rattle.reference_check.specs.Words.{times, UpTo, MayComeTimes, IsOrderedFrom
 use Rattle.reference_check.proofs.Words.{times-replicate, ordered-weaken, times-append}
 use Rattle.message_model.specs.Admits.{AdmitsAs, AdmitsChildren, FitsCode, numbers_of}
 use Rattle.der_model.specs.DerMessage.{DerMessage}
-use Rattle.der_model.specs.Structures.{is_single, is_one}
+use Rattle.der_model.specs.Structures.{is_single, is_once}
 use Rattle.der_model.proofs.Spelled.{at_most_one}
 use Rattle.der_model.proofs.ChildLists.{then_children, slots_then, admits_then, times_none, times_other, ordered_then}
 use Rattle.asn1_model.specs.declared.module.Module.{Module}
@@ -44,7 +44,7 @@ none_more j k n h = grind (arith, nat_tests)
 one_within : {P : Type 0} (s : Slot P) (n : ℕ) → is_single s ≡ true → n ≤ 1 → UpTo n s.max
 one_within s n h le = go s.max h
   where
-    go : (max : Option ℕ) → is_one max ≡ true → UpTo n max
+    go : (max : Option ℕ) → is_once max ≡ true → UpTo n max
     go None e = tt
     go (Some m) e = by_test (eqb_tells m 1)
       where

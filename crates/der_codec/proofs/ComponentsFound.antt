@@ -1,8 +1,9 @@
 -- Identifier octets and ends among the components of slots.
-use Rattle.std.proofs.Common.{◌≡◌, ℕ, zero, suc, ◌+◌, ◌-◌, ◌≤◌, ◌<◌, Bool, true, false, List, [], ◌∷◌, length, drop, Some, None, refl, sym, ap, ◌∙◌, subst, arith, ◌⊎◌, inl, inr}
+use Rattle.std.proofs.Common.{◌≡◌, ℕ, zero, suc, ◌+◌, ◌-◌, ◌≤◌, ◌<◌, Bool, true, false, List, [], ◌∷◌, length, drop, Some, None, Option, refl, sym, ap, ◌∙◌, subst, arith}
 use Rattle.std.specs.Prelude.{if◌then◌else◌, slice_get, slice_index_or}
 use Rattle.std.proofs.Math.ListN.{length-drop}
-use Rattle.std.proofs.lemmas.Bool.{cases_lt, cond-true, cond-false}
+use Rattle.std.proofs.lemmas.Bool.{cond-true, cond-false}
+use Rattle.std.proofs.lemmas.Bool.Decides.{nat_tests}
 use Rattle.std.proofs.lemmas.Option.{slice_get_within}
 use Rattle.lexical_core.specs.declared.rule.Rule.TheVariants.{UnexpectedTag, DerMissing}
 use Rattle.facets.specs.declared.simple.Simple.{Simple}
@@ -11,11 +12,12 @@ use Rattle.der_octets.specs.TagSteps.{class_view}
 use Rattle.der_octets.specs.declared.tag_step.TagClass.{TagClass}
 use Rattle.der_octets.specs.declared.tag_step.TagClass.TheVariants as class
 use Rattle.reference_check.specs.Forms.{Graph, Slot}
+use Rattle.message_model.specs.Options.{AreOptions, IsFirmAt, is_option}
 use Rattle.der_model.specs.Structures.{Component, Label, Element, Listed, is_single, component, components, amount_components}
 use Rattle.der_model.specs.States.{IdentifierAnswer, Begins, Breaks, Fine, EndBreaks, is_under, field_answer, any_answer, field_end, skipping, missing_text}
 use Rattle.der_model.proofs.Fields.{under_own, under_other, any_found}
 use Rattle.der_model.proofs.WholeValues.{under_same}
-use Rattle.der_model.proofs.OneLevel.{drop_get}
+use Rattle.message_model.proofs.Ahead.{drop_get}
 use Rattle.der_codec.specs.Components.{has_to_come, NoneDue, IsDue}
 
 pub drop_components : {P : Type 0} (g : Graph P Simple) (p : P) (n i j : ℕ) (fs : List (Slot P)) → i + n ≡ j → drop n (components g p i fs) ≡ components g p j (drop n fs)
@@ -232,27 +234,38 @@ ends_due g p fs n e due =
     let first : NoneDue (drop n fs) 0 k.0 = due_from fs n k.0 (subst (NoneDue fs n) (sym k.1) due.first) in
     ap field_end (drop_components g p n 0 n fs (omega arith)) ∙ end_due g p (drop n fs) n k.0 due.slot there due.due first
 
-none_within : {A : Type 0} (fs : List A) (k : ℕ) → slice_get fs k ≡ None → length fs ≤ k
-none_within [] k e = omega arith
-none_within (f ∷ fs) zero e = absurd cc
-none_within (f ∷ fs) (suc k) e = (let r = none_within fs k e in omega arith)
-
 pub context_class : (k : TagClass) → class_view k ≡ Context → k ≡ class.Context
 context_class class.Universal e = absurd cc
 context_class class.Application e = absurd cc
 context_class class.Context e = refl
 context_class class.Private e = absurd cc
 
--- no slot stands behind one that is not there
-pub none_further : (fs : List (Slot ℕ)) (from at to : ℕ) → slice_get fs at ≡ None → NoneDue fs from at → NoneDue fs from to
-none_further fs from at to gone none i s low high e = by (cases_lt i at)
+-- a slot has to come where it is no option, and there alone
+comes : (s : Slot ℕ) → has_to_come s ≡ (if is_option s then false else true)
+comes s = by s.tag s.min s.max s.target
   where
-    by : (i < at) ⊎ (at ≤ i) → has_to_come s ≡ false
-    by (inl before) = none i s low before e
-    by (inr behind) = absurd (let there = slice_get_within fs i s e in let past = none_within fs at gone in omega arith)
+    by : (tag : List ℕ) (min : ℕ) (max : Option ℕ) (target : ℕ) → (let s : Slot ℕ = record { tag = tag; min = min; max = max; target = target } in has_to_come s ≡ (if is_option s then false else true))
+    by tag min None target = grind (arith, nat_tests)
+    by tag min (Some most) target = grind (arith, nat_tests)
 
-pub due_within : (fs : List (Slot ℕ)) (from to at : ℕ) → IsDue fs from to at → IsDue fs from (length fs) at
-due_within fs from to at due = record { low = due.low; high = slice_get_within fs at due.slot due.found; slot = due.slot; found = due.found; due = due.due; first = due.first }
+comes_firm : (s : Slot ℕ) → is_option s ≡ false → has_to_come s ≡ true
+comes_firm s firm = comes s ∙ ap (λ b. if b then false else true) firm
 
-pub none_due_within : (fs : List (Slot ℕ)) (from to : ℕ) → length fs ≤ to → NoneDue fs from to → NoneDue fs from (length fs)
-none_due_within fs from to enough none i s low high e = none i s low (omega arith) e
+-- options need not come
+none_first : (fs : List (Slot ℕ)) (from to : ℕ) → AreOptions fs from to → NoneDue fs from to
+none_first fs from to options i s low high e = comes s ∙ ap (λ b. if b then false else true) (options i s low high e)
+
+pub due_firm : (fs : List (Slot ℕ)) (from to at : ℕ) → IsFirmAt fs from at → at < to → IsDue fs from to at
+due_firm fs from to at h high = record { low = h.above; high = high; slot = h.slot; found = h.is; due = comes_firm h.slot h.firm; first = none_first fs from at h.first }
+
+pub due_behind : (fs : List (Slot ℕ)) (from at : ℕ) → IsFirmAt fs from at → IsDue fs from (length fs) at
+due_behind fs from at h = due_firm fs from (length fs) at h (slice_get_within fs at h.slot h.is)
+
+pub none_before : (fs : List (Slot ℕ)) (from to at : ℕ) → IsFirmAt fs from at → to ≤ at → NoneDue fs from to
+none_before fs from to at h past = none_first fs from to (λ i s low high e. h.first i s low (omega arith) e)
+
+pub none_of_options : (fs : List (Slot ℕ)) (from to : ℕ) → AreOptions fs from (length fs) → NoneDue fs from to
+none_of_options fs from to options = none_first fs from to (λ i s low high e. options i s low (slice_get_within fs i s e) e)
+
+pub none_between : (fs : List (Slot ℕ)) (from to : ℕ) → to ≤ from → NoneDue fs from to
+none_between fs from to past i s low high e = absurd (omega arith)

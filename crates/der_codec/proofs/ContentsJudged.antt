@@ -47,9 +47,14 @@ holds m (Holds (LeafOf simple)) octets leaf h = (leaf, h)
 holds m (Holds Fragment) octets leaf h = h.0
 holds m s octets leaf h = absurd h
 
+-- the form of a type, where it is a simple one or an envelope
+pub simple_form : (f : graph.Form ℕ Simple) (told : Bor Simple) → IsFormOf (Some (form.Simple told)) f → f ≡ graph.Simple told.now
+simple_form (graph.Simple simple) told is = ap graph.Simple (sym is)
+simple_form f told is = absurd is
+
+pub envelope_form : (f : graph.Form ℕ Simple) → IsFormOf (Some form.Envelope) f → f ≡ graph.Envelope
+envelope_form graph.Envelope is = refl
+envelope_form f is = absurd is
+
 pub no_envelope : (g : Graph ℕ Simple) (p : ℕ) → HasNoEnvelopes g → IsFormOf (Some form.Envelope) (g p) → ⊥
-no_envelope g p none is = none p (envelope_is (g p) is)
-  where
-    envelope_is : (f : graph.Form ℕ Simple) → IsFormOf (Some form.Envelope) f → f ≡ graph.Envelope
-    envelope_is graph.Envelope is = refl
-    envelope_is f is = absurd is
+no_envelope g p none is = none p (envelope_form (g p) is)

@@ -1,5 +1,5 @@
 -- What is kept of contents in values, and what is held of what is open.
-use Rattle.std.proofs.Common.{◌≡◌, ℕ, zero, suc, ◌-◌, ◌≤◌, List, [], ◌∷◌, ◌++◌, length, drop, Option, Some, None, Ok, Err, refl, sym, ap, ◌∙◌, subst, arith, append_assoc, length-append, Bor, encode_utf8_all}
+use Rattle.std.proofs.Common.{◌≡◌, ℕ, zero, suc, ◌+◌, ◌-◌, ◌*◌, ◌≤◌, List, [], ◌∷◌, ◌++◌, length, drop, Option, Some, None, Ok, Err, refl, sym, ap, ◌∙◌, subst, arith, append_assoc, length-append, Bor, encode_utf8_all}
 use Rattle.data_types.specs.Leaf.{Leaf}
 use Rattle.facets.specs.LeafChecks.{IsHeldWithin}
 use Rattle.facets.specs.declared.simple.Simple.{Simple}
@@ -20,14 +20,14 @@ use Rattle.der_model.specs.States.{State, Start, AwaitsLength, AwaitsContents, W
 use Rattle.der_codec.specs.Judging.{HoldsLeaf}
 use Rattle.der_codec.specs.KeptPieces.{HoldsLeafAt}
 use Rattle.der_codec.specs.Levels.{IsSpot}
-use Rattle.der_codec.specs.OpenLeaves.{IsOpenUnder, HoldsAt}
+use Rattle.der_codec.specs.OpenLeaves.{IsOpenLeaf, IsOpenEnvelope, IsOpenUnder, IsOpenAt, HoldsAt, held_by_envelope, held_with_check}
 use Rattle.der_codec.specs.KeptOctets.{IsKeptUnder, IsKeptIn, IsKeptAt, IsLeafAt}
-use Rattle.der_codec.specs.Limits.{contents_limit, open_limit, leaf_come, token_come}
+use Rattle.der_codec.specs.Limits.{IsEnvelopeForm, contents_limit, open_limit, leaf_come, token_come}
 use Rattle.der_codec.specs.Decoding.{Reads, IsOpenState, IsBegun, header_come}
 use Rattle.der_codec.specs.Checking.{KeepsContents}
 use Rattle.der_codec.specs.declared.held.Held.{Held}
-use Rattle.der_codec.specs.declared.held.OpenLeaf.{OpenLeaf}
-use Rattle.der_codec.specs.declared.held.OpenLeaf.TheVariants as opens
+use Rattle.der_codec.specs.declared.open_leaf.OpenLeaf.{OpenLeaf}
+use Rattle.der_codec.specs.declared.open_leaf.OpenLeaf.TheVariants as opens
 use Rattle.der_codec.specs.declared.level.Spot.{Spot}
 use Rattle.der_codec.specs.declared.level.Spot.TheVariants as spots
 use Rattle.der_codec.specs.declared.level.Level.{Level}
@@ -88,15 +88,25 @@ held_then m spot kept octets front less k l = record {
 
 -- ---- what is held
 
--- no more is held than has come
-under_few : (simple : Simple) (opened : OpenLeaf) (rest octets : List ℕ) → IsOpenUnder simple opened rest octets → length rest ≤ length octets
-under_few simple (opens.Text check) rest octets (free, t) = (let all = ap length t.octets_are in let sum = length-append (encode_utf8_all t.chars) rest in omega (arith, all, sum))
-under_few simple opens.NoText rest octets (free, none, bad) = (let size = ap length none in omega (arith, size))
-under_few simple opens.Binary rest octets (binary, none, are) = (let size = ap length none in omega (arith, size))
+-- of an open leaf a few octets are held, and no more than have come
+leaf_few : (simple : Simple) (opened : OpenLeaf) (rest octets : List ℕ) → IsOpenLeaf simple opened rest octets → (length rest ≤ 3) × (length rest ≤ length octets)
+leaf_few simple (opens.Text check) rest octets (free, t) = (t.few, (let all = ap length t.octets_are in let sum = length-append (encode_utf8_all t.chars) rest in omega (arith, all, sum)))
+leaf_few simple opens.NoText rest octets (free, none, bad) = (let size = ap length none in (omega (arith, size), omega (arith, size)))
+leaf_few simple opens.Binary rest octets (binary, none, are) = (let size = ap length none in (omega (arith, size), omega (arith, size)))
+leaf_few simple (opens.Envelope check) rest octets h = absurd h
+
+pub under_few : (f : graph.Form ℕ Simple) (opened : OpenLeaf) (rest octets : List ℕ) → IsOpenUnder f opened rest octets → (length rest ≤ 3) × (length rest ≤ length octets)
+under_few (graph.Simple simple) opened rest octets h = leaf_few simple opened rest octets h
+under_few graph.Envelope opened rest octets (none, is) = (let size = ap length none in (omega (arith, size), omega (arith, size)))
+under_few f opened rest octets h = absurd h
+
+open_few : (m : DerMessage ℕ) (spot : Spot) (opened : OpenLeaf) (rest octets : List ℕ) → IsOpenAt m spot opened rest octets → (length rest ≤ 3) × (length rest ≤ length octets)
+open_few m (spots.Value n) opened rest octets h = under_few (m.forms n) opened rest octets h
+open_few m spot opened rest octets h = absurd h
 
 pub held_few : (m : DerMessage ℕ) (spot : Spot) (pieces : Option Region) (opened : Option OpenLeaf) (kept octets : List ℕ) → HoldsAt m spot pieces opened kept octets → length kept ≤ length octets
 held_few m spot pieces None kept octets h = h.0.few
-held_few m spot pieces (Some opened) kept octets h = under_few h.0.simple opened kept octets h.0.under
+held_few m spot pieces (Some opened) kept octets h = (open_few m spot opened kept octets h.0).1
 
 -- where pieces are kept no leaf is open
 pub none_open : (m : DerMessage ℕ) (spot : Spot) (pieces : Option Region) (region : Region) (opened : Option OpenLeaf) (kept octets : List ℕ) → pieces ≡ Some region → HoldsAt m spot pieces opened kept octets → opened ≡ None
@@ -136,32 +146,53 @@ number_leaf T p told base sound sorted is = record {
 
 -- ---- what is held of what is open
 
-pub under_little : (simple : Simple) (opened : OpenLeaf) (rest octets : List ℕ) → IsOpenUnder simple opened rest octets → length rest ≤ 3
-under_little simple (opens.Text check) rest octets (free, t) = t.few
-under_little simple opens.NoText rest octets (free, none, bad) = (let size = ap length none in omega (arith, size))
-under_little simple opens.Binary rest octets (binary, none, are) = (let size = ap length none in omega (arith, size))
+-- what the check of an open envelope holds is at most twice what has come
+abbrev pub HoldsTwice : Option OpenLeaf → List ℕ → ℕ → ℕ → Type 0
+HoldsTwice opened octets few held = (leaf : OpenLeaf) → opened ≡ Some leaf → IsOpenEnvelope leaf octets → held ≤ few + 2 * length octets
 
-held_at : (m : DerMessage ℕ) (spot : Spot) (pieces : Option Region) (opened : Option OpenLeaf) (kept octets : List ℕ) (of : structures.Spot ℕ) → HoldsAt m spot pieces opened kept octets → IsSpot m.forms spot of → IsHeldWithin (contents_limit (structure m of)) (length octets) (length kept)
-held_at m spot pieces None kept octets of h at = (h.0.stands of at).within
-held_at m spot pieces (Some opened) kept octets of h at = (let few = under_little h.0.simple opened kept octets h.0.under in held_within_few (contents_limit (structure m of)) (length octets) (length kept) (omega (arith, few)))
+-- of any other none is held
+leaf_held_none : (simple : Simple) (opened : OpenLeaf) (rest octets : List ℕ) → IsOpenLeaf simple opened rest octets → held_by_envelope (Some opened) ≡ 0
+leaf_held_none simple (opens.Text check) rest octets h = refl
+leaf_held_none simple opens.NoText rest octets h = refl
+leaf_held_none simple opens.Binary rest octets h = refl
+leaf_held_none simple (opens.Envelope check) rest octets h = absurd h
 
-pub held_open : (T : Tables) (xs : List Level) (d : Due) (start place : ℕ) (bytes : List ℕ) (pieces : Option Region) (kept : Held) (r : Reads (der_message T) xs d start place bytes) → KeepsContents T d pieces start bytes kept
-    → IsHeldWithin (open_limit (der_message T) r.state) (leaf_come r.state r.rest) (length kept.octets.items)
-held_open T xs d start place bytes pieces kept r keeps = by d r.state r.is_open keeps (rest_from (der_message T) xs d start place bytes r)
+pub simple_none : (f : graph.Form ℕ Simple) (opened : OpenLeaf) (rest octets : List ℕ) → (IsEnvelopeForm f → ⊥) → IsOpenUnder f opened rest octets → held_by_envelope (Some opened) ≡ 0
+simple_none (graph.Simple simple) opened rest octets other h = leaf_held_none simple opened rest octets h
+simple_none graph.Envelope opened rest octets other h = absurd (other tt)
+simple_none f opened rest octets other h = absurd h
+
+value_within : (m : DerMessage ℕ) (n : ℕ) (f : graph.Form ℕ Simple) (opened : OpenLeaf) (rest octets : List ℕ) (held : ℕ) → IsOpenUnder f opened rest octets → held ≡ length rest + held_by_envelope (Some opened) → HoldsTwice (Some opened) octets (length rest) held
+    → IsHeldWithin (contents_limit (form_structure m.forms n f)) (length octets) held
+value_within m n (graph.Simple simple) opened rest octets held h is twice =
+    (let few = (leaf_few simple opened rest octets h).0 in let none = leaf_held_none simple opened rest octets h in held_within_few (contents_limit (form_structure m.forms n (graph.Simple simple))) (length octets) held (omega (arith, few, none, is)))
+value_within m n graph.Envelope opened rest octets held (none, e) is twice = (let size = ap length none in let most = twice opened refl e in omega (arith, size, most))
+value_within m n f opened rest octets held h is twice = absurd h
+
+opened_within : (m : DerMessage ℕ) (spot : Spot) (opened : OpenLeaf) (rest octets : List ℕ) (held : ℕ) (of : structures.Spot ℕ) → IsOpenAt m spot opened rest octets → held ≡ length rest + held_by_envelope (Some opened) → HoldsTwice (Some opened) octets (length rest) held → IsSpot m.forms spot of
+    → IsHeldWithin (contents_limit (structure m of)) (length octets) held
+opened_within m (spots.Value n) opened rest octets held of h is twice at = subst (λ z. IsHeldWithin (contents_limit (structure m z)) (length octets) held) (sym at) (value_within m n (m.forms n) opened rest octets held h is twice)
+opened_within m spot opened rest octets held of h is twice at = absurd h
+
+held_at : (m : DerMessage ℕ) (spot : Spot) (pieces : Option Region) (opened : Option OpenLeaf) (kept octets : List ℕ) (held : ℕ) (of : structures.Spot ℕ) → HoldsAt m spot pieces opened kept octets → held ≡ length kept + held_by_envelope opened → HoldsTwice opened octets (length kept) held → IsSpot m.forms spot of
+    → IsHeldWithin (contents_limit (structure m of)) (length octets) held
+held_at m spot pieces None kept octets held of h is twice at = (let same : length kept ≡ held = omega (arith, is) in subst (IsHeldWithin (contents_limit (structure m of)) (length octets)) same (h.0.stands of at).within)
+held_at m spot pieces (Some opened) kept octets held of h is twice at = opened_within m spot opened kept octets held of h.0 is twice at
+
+pub held_open : (T : Tables) (xs : List Level) (d : Due) (start place : ℕ) (bytes : List ℕ) (pieces : Option Region) (kept : Held) (held : ℕ) (r : Reads (der_message T) xs d start place bytes) → KeepsContents T d pieces start bytes kept
+    → held ≡ held_with_check kept → HoldsTwice kept.leaf r.rest (length kept.octets.items) held → IsHeldWithin (open_limit (der_message T) r.state) (leaf_come r.state r.rest) held
+held_open T xs d start place bytes pieces kept held r keeps is twice = by d r.state r.is_open keeps (rest_from (der_message T) xs d start place bytes r)
   where
-    size : ℕ
-    size = length kept.octets.items
+    nothing : (s : State ℕ) → kept.octets.items ≡ [] → kept.leaf ≡ None → IsHeldWithin (open_limit (der_message T) s) (leaf_come s r.rest) held
+    nothing s e f = (let none = ap length e in let closed = ap held_by_envelope f in held_within_few (open_limit (der_message T) s) (leaf_come s r.rest) held (omega (arith, none, closed, is)))
 
-    nothing : (s : State ℕ) → kept.octets.items ≡ [] → IsHeldWithin (open_limit (der_message T) s) (leaf_come s r.rest) size
-    nothing s e = (let none = ap length e in held_within_few (open_limit (der_message T) s) (leaf_come s r.rest) size (omega (arith, none)))
-
-    by : (d : Due) (s : State ℕ) → IsOpenState (der_message T) xs d s → KeepsContents T d pieces start bytes kept → drop start bytes ≡ r.rest → IsHeldWithin (open_limit (der_message T) s) (leaf_come s r.rest) size
+    by : (d : Due) (s : State ℕ) → IsOpenState (der_message T) xs d s → KeepsContents T d pieces start bytes kept → drop start bytes ≡ r.rest → IsHeldWithin (open_limit (der_message T) s) (leaf_come s r.rest) held
     by (due.Contents spot left) (AwaitsContents of names count ls) op k e =
-        subst (λ z. IsHeldWithin (contents_limit (structure (der_message T) of)) (length z) size) e (held_at (der_message T) spot pieces kept.leaf kept.octets.items (drop start bytes) of k op.0)
+        held_at (der_message T) spot pieces kept.leaf kept.octets.items r.rest held of (subst (HoldsAt (der_message T) spot pieces kept.leaf kept.octets.items) e k) is twice op.0
     by (due.Contents spot left) s op k e = absurd op
-    by (due.Tag step) s op k e = nothing s k.0
-    by (due.Length c spot step) s op k e = nothing s k.0
-    by due.Over s op k e = nothing s k.0
+    by (due.Tag step) s op k e = nothing s k.0 k.1
+    by (due.Length c spot step) s op k e = nothing s k.0 k.1
+    by due.Over s op k e = nothing s k.0 k.1
 
 tag_few : (come first high : ℕ) (rest : List ℕ) → tags.HasTakenTagIn come first high rest → length rest ≤ 8
 tag_few zero first high rest h = (let none = ap length h in omega (arith, none))

@@ -8,7 +8,7 @@ use Rattle.der_model.specs.DerMessage.{DerMessage}
 use Rattle.der_codec.specs.Levels.{IsLevel, first_of, rest_of, inwards}
 use Rattle.der_codec.specs.Components.{IsEnded, added_text}
 use Rattle.der_codec.specs.Decoding.{Reads, Fails, IsFresh, due_after}
-use Rattle.der_codec.specs.declared.components.Ended.TheVariants as ended
+use Rattle.der_codec.specs.declared.value_ends.Ended.TheVariants as ended
 use Rattle.der_codec.specs.declared.components.Added.{Added}
 use Rattle.der_codec.specs.declared.level.Level.{Level}
 use Rattle.der_codec.specs.declared.decoder.Due.{Due}

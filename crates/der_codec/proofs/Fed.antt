@@ -1,6 +1,6 @@
 -- What a checker was given, and what it then tells.
 use Rattle.std.specs.Prelude.{Ok, Err}
-use Rattle.std.proofs.Common.{◌≡◌, ◌≢◌, ℕ, zero, suc, ◌+◌, ◌-◌, ◌≤◌, ◌<◌, ◌^◌, List, [], ◌∷◌, ◌++◌, length, take, drop, Option, refl, sym, ap, ◌∙◌, subst, arith, append-nil, append_assoc, length-append, ◌⊎◌, inl, inr}
+use Rattle.std.proofs.Common.{◌≡◌, ◌≢◌, ℕ, zero, suc, ◌+◌, ◌-◌, ◌≤◌, ◌<◌, ◌^◌, List, [], ◌∷◌, ◌++◌, length, take, drop, Option, Some, None, refl, sym, ap, ◌∙◌, subst, arith, append-nil, append_assoc, length-append, ◌⊎◌, inl, inr}
 use Rattle.std.proofs.Math.Seq.{take-add}
 use Rattle.lexical_core.specs.declared.rule.Rule.{Rule}
 use Rattle.lexical_core.specs.declared.rule.Rule.TheVariants.{DerTruncated}
@@ -33,16 +33,17 @@ use Rattle.der_codec.specs.declared.checker.DerChecker.{DerChecker}
 use Rattle.der_codec.specs.declared.components.Added.{Added}
 use Rattle.der_codec.specs.declared.decoder.Decoder.{Decoder}
 use Rattle.der_codec.specs.declared.held.Held.{Held}
+use Rattle.der_codec.specs.declared.open_leaf.OpenLeaf.{OpenLeaf}
 use Rattle.der_codec.specs.declared.decoder.Due.{Due}
 use Rattle.der_codec.specs.declared.decoder.Due.TheVariants as due
 use Rattle.der_codec.specs.declared.decoder.Stop.{Stop}
 use Rattle.der_codec.specs.declared.decoder.Stop.TheVariants as stop
 use Rattle.der_codec.proofs.InputEnds.{goes_on, is_spelled}
 use Rattle.der_codec.proofs.Named.{front_named}
-use Rattle.der_codec.specs.OpenLeaves.{HoldsAt, HoldsNothing}
+use Rattle.der_codec.specs.OpenLeaves.{HoldsAt, HoldsNothing, held_with_check}
 use Rattle.der_codec.specs.KeptPieces.{KeepsShown, GoesOnByLeaf, EndsLeaf}
 use Rattle.der_codec.specs.Limits.{open_limit, leaf_come, token_come}
-use Rattle.der_codec.proofs.CutSpots.{nothing_held, held_open, token_open}
+use Rattle.der_codec.proofs.CutSpots.{HoldsTwice, nothing_held, held_open, token_open}
 use Rattle.der_codec.proofs.ContentsSteps.{place_counts, kept_more, none_kept, rest_from, some_before, contents_break}
 use Rattle.der_codec.proofs.NoCuts.{contents_stay}
 use Rattle.der_codec.proofs.Nested.{ready_waits}
@@ -361,8 +362,32 @@ depth_is T checker bytes h = (let d = checker.decoder in depth_counts (der_messa
 
 -- ---- what is held
 
-pub scratch_is : (T : Tables) (checker : DerChecker) (bytes : List ℕ) (h : HasFedDer checker T bytes) → IsHeldWithin (open_limit (der_message T) h.reading.read.state) (leaf_come h.reading.read.state h.reading.read.rest) (length checker.kept.octets.items)
-scratch_is T checker bytes h = (let d = checker.decoder in held_open T (inwards d.levels.items) d.due d.start d.place bytes checker.pieces checker.kept h.reading.read h.reading.keeps)
+-- where a leaf is open the octets that have come of it are fewer than 2^40
+pub open_short : (T : Tables) (checker : DerChecker) (bytes : List ℕ) (leaf : OpenLeaf) (h : HasFedDer checker T bytes) → checker.kept.leaf ≡ Some leaf → length h.reading.read.rest < 2 ^ 40
+open_short T checker bytes leaf h opened = by d.due refl h.reading.keeps
+  where
+    d : Decoder
+    d = checker.decoder
+
+    other : checker.kept.leaf ≡ None → length h.reading.read.rest < 2 ^ 40
+    other none = absurd (let both = sym none ∙ opened in cc)
+
+    by : (x : Due) → d.due ≡ x → KeepsContents T x checker.pieces d.start bytes checker.kept → length h.reading.read.rest < 2 ^ 40
+    by (due.Contents spot left) is k =
+        let m = der_message T in
+        let xs = inwards d.levels.items in
+        let few = come_short T d bytes spot left is h.reading.read in
+        let place = place_counts m xs d.due d.start d.place bytes h.reading.read in
+        let size = ap length (rest_from m xs d.due d.start d.place bytes h.reading.read) in
+        let most = h.short in
+        omega (arith, few, place, size, most)
+    by (due.Tag step) is k = other k.1
+    by (due.Length c spot step) is k = other k.1
+    by due.Over is k = other k.1
+
+pub scratch_is : (T : Tables) (checker : DerChecker) (bytes : List ℕ) (held : ℕ) (h : HasFedDer checker T bytes) → held ≡ held_with_check checker.kept → HoldsTwice checker.kept.leaf h.reading.read.rest (length checker.kept.octets.items) held
+    → IsHeldWithin (open_limit (der_message T) h.reading.read.state) (leaf_come h.reading.read.state h.reading.read.rest) held
+scratch_is T checker bytes held h is twice = (let d = checker.decoder in held_open T (inwards d.levels.items) d.due d.start d.place bytes checker.pieces checker.kept held h.reading.read h.reading.keeps is twice)
 
 pub token_is : (T : Tables) (checker : DerChecker) (bytes : List ℕ) (h : HasFedDer checker T bytes) → (token_held checker ≡ token_come h.reading.read.state h.reading.read.rest) × (token_held checker ≤ 8)
 token_is T checker bytes h = (let d = checker.decoder in token_open (der_message T) (inwards d.levels.items) d.due d.start d.place bytes h.reading.read)

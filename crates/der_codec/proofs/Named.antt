@@ -11,7 +11,7 @@ use Rattle.der_model.specs.Faults.{DerFront, IsCleanPart}
 use Rattle.der_model.specs.OpenParts.{components_of}
 use Rattle.der_model.proofs.BegunSlots.{no_begin}
 use Rattle.der_model.proofs.ShownSlots.{one_begun, item_begun}
-use Rattle.der_model.proofs.OneLevel.{drop_get}
+use Rattle.message_model.proofs.Ahead.{drop_get}
 use Rattle.der_codec.specs.inner.OpenNames.{names_of_part, IsNamed}
 
 same_begin : {P : Type 0} (i k : ℕ) (d c : Component P) → Begins i d ≡ Begins k c → (k ≡ i) × (d ≡ c)

@@ -16,7 +16,7 @@ use Rattle.der_codec.specs.Levels.{IsLevel, AreLevels, first_of}
 use Rattle.der_codec.specs.Components.{IsFound, IsEnded}
 use Rattle.der_codec.specs.Decoding.{IsOpenState, Reads}
 use Rattle.der_codec.specs.declared.components.Found.TheVariants as found
-use Rattle.der_codec.specs.declared.components.Ended.TheVariants as ended
+use Rattle.der_codec.specs.declared.value_ends.Ended.TheVariants as ended
 use Rattle.der_codec.specs.declared.components.Added.{Added}
 use Rattle.der_codec.specs.declared.level.Level as levels
 use Rattle.der_codec.specs.declared.decoder.Due.{Due}

@@ -24,7 +24,7 @@ use Rattle.der_codec.specs.Components.{IsFound, IsEnded, added_text}
 use Rattle.der_codec.specs.Decoding.{IsOpenState, IsBegun, Reads, Fails, IsBelowEnd, IsPastEnd, end_of_first, IsAdvanced}
 use Rattle.der_codec.specs.declared.components.Found.TheVariants as found
 use Rattle.der_codec.specs.declared.components.Added.{Added}
-use Rattle.der_codec.specs.declared.components.Ended.TheVariants as ended
+use Rattle.der_codec.specs.declared.value_ends.Ended.TheVariants as ended
 use Rattle.der_codec.specs.declared.level.Spot.{Spot}
 use Rattle.der_codec.specs.declared.level.Level.{Level}
 use Rattle.der_codec.specs.declared.decoder.Due.{Due}

@@ -1,5 +1,5 @@
 -- Where only the room grows, what was given stays so.
-use Rattle.std.proofs.Common.{◌≡◌, ℕ, List, Option, Some, None, length, refl, sym, ap, ◌∙◌, subst}
+use Rattle.std.proofs.Common.{◌≡◌, ℕ, List, Option, Some, None, length, refl, sym, ap, ◌∙◌, subst, arith}
 use Rattle.inst_pool.specs.Pieces.{Region}
 use Rattle.message_model.specs.Tables.{Tables, types_of}
 use Rattle.der_model.specs.DerMessage.{DerMessage, der_message}
@@ -10,12 +10,13 @@ use Rattle.der_codec.specs.Checking.{HasFedDer, IsDerCheckerFor, IsFreed, IsRead
 use Rattle.der_codec.specs.Decoding.{Reads, IsWaiting, end_of_levels, header_come}
 use Rattle.der_codec.specs.KeptPieces.{Shows}
 use Rattle.der_codec.specs.Levels.{inwards}
+use Rattle.der_codec.specs.OpenLeaves.{held_by_envelope}
 use Rattle.der_codec.specs.Reserved.{HasSamePieces, IsWidened}
 use Rattle.der_codec.specs.declared.checker.DerChecker.{DerChecker}
 use Rattle.der_codec.specs.declared.decoder.Due.{Due}
 use Rattle.der_codec.specs.declared.decoder.Due.TheVariants as due
 use Rattle.der_codec.specs.declared.held.Held.{Held}
-use Rattle.der_codec.specs.declared.held.OpenLeaf.{OpenLeaf}
+use Rattle.der_codec.specs.declared.open_leaf.OpenLeaf.{OpenLeaf}
 use Rattle.der_codec.specs.declared.level.Level.{Level}
 
 -- what holds of the open levels, of what is due and of both places
@@ -76,7 +77,7 @@ widened_made T old new w checks h = record {
   where
     widened_freed : IsFreed old → IsFreed new
     widened_freed f = record {
-      leaf = ap length w.kept ∙ f.leaf;
+      leaf = (let octets = ap length w.kept in let check = ap held_by_envelope w.opened in let none = f.leaf in omega (arith, octets, check, none));
       opened = w.opened ∙ f.opened;
       header = as_before (λ xs a s p. header_come a s p ≡ 0) old new w f.header;
       values = w.levels ∙ f.values;

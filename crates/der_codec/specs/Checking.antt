@@ -4,6 +4,7 @@ use Rattle.lexical_core.specs.declared.rule.Rule.TheVariants.{DerTruncated}
 use Rattle.data_types.specs.Value.{Value}
 use Rattle.facets.specs.LeafVerdicts.{verdict_kept, verdict_in_place}
 use Rattle.inst_pool.specs.Pieces.{Region}
+use Rattle.respell.specs.FragmentChecks.{fragment_held}
 use Rattle.message_model.specs.Tables.{Tables, types_of}
 use Rattle.message_model.specs.declared.fault.Fault.{Fault as Told}
 use Rattle.message_model.specs.declared.fault.InstanceError.{InstanceError}
@@ -14,7 +15,7 @@ use Rattle.der_model.specs.Faults.{FaultInDer, DerFault}
 use Rattle.der_model.specs.States.{State, Start, AwaitsLength, AwaitsContents, Within}
 use Rattle.der_codec.specs.Checked.{CheckTypes}
 use Rattle.der_codec.specs.Components.{added_text}
-use Rattle.der_codec.specs.OpenLeaves.{HoldsAt}
+use Rattle.der_codec.specs.OpenLeaves.{HoldsAt, IsHeldByCheck, held_with_check}
 use Rattle.der_codec.specs.KeptPieces.{KeepsShown}
 use Rattle.der_codec.specs.Decoding.{HasReadParts, header_come, IsFault, IsWaiting, end_of_levels}
 use Rattle.der_codec.specs.declared.decoder.Decoder.{Decoder}
@@ -24,8 +25,8 @@ use Rattle.der_codec.specs.declared.decoder.Stop.{Stop}
 use Rattle.der_codec.specs.declared.decoder.Stop.TheVariants as stop
 use Rattle.der_codec.specs.declared.checker.DerChecker.{DerChecker}
 use Rattle.der_codec.specs.declared.held.Held.{Held}
-use Rattle.der_codec.specs.declared.held.OpenLeaf.{OpenLeaf}
-use Rattle.der_codec.specs.declared.held.OpenLeaf.TheVariants as opens
+use Rattle.der_codec.specs.declared.open_leaf.OpenLeaf.{OpenLeaf}
+use Rattle.der_codec.specs.declared.open_leaf.OpenLeaf.TheVariants as opens
 use Rattle.der_codec.specs.declared.level.Spot.{Spot}
 
 -- of contents that are due is held what tells what those are that have come
@@ -66,17 +67,22 @@ pub record HasFedDer (checker : DerChecker) (T : Tables) (bytes : List ℕ) : Ty
 abbrev pub der_bytes_fed : DerChecker → ℕ
 der_bytes_fed checker = checker.decoder.place
 
--- how many octets it keeps of the contents that are due
+-- how many bytes it holds of the contents that are due: octets, and what the check of an open envelope holds
 abbrev pub held_contents : DerChecker → ℕ
-held_contents checker = length checker.kept.octets.items
+held_contents checker = held_with_check checker.kept
 
 -- how many bytes the check of an open leaf keeps, in memory and in place
 abbrev pub held_by_leaf : Option OpenLeaf → ℕ
 held_by_leaf (Some (opens.Text check)) = verdict_kept check.value + verdict_in_place check.value
+held_by_leaf (Some (opens.Envelope check)) = fragment_held check.value.check
 held_by_leaf opened = 0
 
 abbrev pub held_by_check : DerChecker → ℕ
 held_by_check checker = held_by_leaf checker.kept.leaf
+
+-- so much is held of an open envelope of which these octets have come: what its check holds, which was given them
+abbrev pub IsHeldOfEnvelope : DerChecker → List ℕ → ℕ → Type 0
+IsHeldOfEnvelope checker octets held = IsHeldByCheck checker.kept.leaf octets held
 
 -- it keeps no pieces
 abbrev pub ChecksAlone : DerChecker → Type 0
@@ -90,7 +96,7 @@ token_held checker = header_come checker.decoder.due checker.decoder.start check
 abbrev pub der_failure : DerChecker → Option InstanceError
 der_failure checker = checker.failed
 
--- no octets are held, no leaf and no value is open, and no piece is kept
+-- nothing is held of contents, by a check neither, no leaf and no value is open, and no piece is kept
 pub record IsFreed (checker : DerChecker) : Type 0 where
   pub leaf : held_contents checker ≡ 0
   pub opened : checker.kept.leaf ≡ None

@@ -10,8 +10,8 @@ use Rattle.der_codec.specs.declared.components.Added.{Added}
 use Rattle.der_codec.specs.declared.components.Added.TheVariants as added
 use Rattle.der_codec.specs.declared.components.Found.{Found}
 use Rattle.der_codec.specs.declared.components.Found.TheVariants.{Begins, Breaks}
-use Rattle.der_codec.specs.declared.components.Ended.{Ended}
-use Rattle.der_codec.specs.declared.components.Ended.TheVariants as ended
+use Rattle.der_codec.specs.declared.value_ends.Ended.{Ended}
+use Rattle.der_codec.specs.declared.value_ends.Ended.TheVariants as ended
 
 abbrev pub slot_text : Option (graph.Slot ℕ) → List ℕ
 slot_text None = []

@@ -30,15 +30,27 @@ abbrev pub IsBinaryForm : {P : Type 0} → graph.Form P Simple → Type 0
 IsBinaryForm (graph.Simple simple) = simple.kind ≡ kind.Binary
 IsBinaryForm f = ⊥
 
--- the leaf that is open is a text without codes
-abbrev pub OpensFreeText : {P : Type 0} → DerMessage P → State P → Type 0
-OpensFreeText m (AwaitsContents (structures.Value p) names count around) = IsFreeForm (m.forms p)
-OpensFreeText m s = ⊥
+-- a type of envelopes
+abbrev pub IsEnvelopeForm : {P : Type 0} → graph.Form P Simple → Type 0
+IsEnvelopeForm graph.Envelope = Unit {0}
+IsEnvelopeForm f = ⊥
 
--- the leaf that is open is a binary value
+-- the leaf that is open is a value of a type of such a form
+abbrev pub OpensForm : {P : Type 0} → (graph.Form P Simple → Type 0) → DerMessage P → State P → Type 0
+OpensForm F m (AwaitsContents (structures.Value p) names count around) = F (m.forms p)
+OpensForm F m s = ⊥
+
+-- it is a text without codes
+abbrev pub OpensFreeText : {P : Type 0} → DerMessage P → State P → Type 0
+OpensFreeText m s = OpensForm IsFreeForm m s
+
+-- it is a binary value
 abbrev pub OpensBinary : {P : Type 0} → DerMessage P → State P → Type 0
-OpensBinary m (AwaitsContents (structures.Value p) names count around) = IsBinaryForm (m.forms p)
-OpensBinary m s = ⊥
+OpensBinary m s = OpensForm IsBinaryForm m s
+
+-- it is an envelope
+abbrev pub OpensEnvelope : {P : Type 0} → DerMessage P → State P → Type 0
+OpensEnvelope m s = OpensForm IsEnvelopeForm m s
 
 -- of the octets of the part that has begun those that are contents
 abbrev pub leaf_come : {P : Type 0} → State P → List ℕ → ℕ

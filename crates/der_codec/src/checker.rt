@@ -11,8 +11,8 @@ ghost use Rattle.der_codec.specs.Decoding.{HasReadParts, IsStopped, IsSettled, I
 ghost use Rattle.der_codec.specs.KeptPieces.{KeepsShown, AreNone, StaysAlone};
 ghost use Rattle.der_codec.specs.Reserved.{IsKeeping, HasEnough};
 ghost use Rattle.der_codec.specs.OpenLeaves.{HoldsNothing};
-ghost use Rattle.der_codec.specs.Limits.{OpensFreeText, OpensBinary, open_limit, leaf_come, token_come};
-ghost use Rattle.der_codec.specs.Checking.{HasFedDer, ChecksAlone, IsReading, IsDerCheckerFor, StopsWithin, TakesDerFront, DerStops, HaveDerFault, IsSpelledDer, DerEndsAs, IsFreed, open_count, der_bytes_fed, der_failure, held_contents, held_by_check, token_held};
+ghost use Rattle.der_codec.specs.Limits.{OpensFreeText, OpensBinary, OpensEnvelope, open_limit, leaf_come, token_come};
+ghost use Rattle.der_codec.specs.Checking.{HasFedDer, ChecksAlone, IsReading, IsDerCheckerFor, StopsWithin, TakesDerFront, DerStops, HaveDerFault, IsSpelledDer, DerEndsAs, IsFreed, IsHeldOfEnvelope, open_count, der_bytes_fed, der_failure, held_contents, held_by_check, token_held};
 
 use crate::checks::Checks;
 use crate::decoder::{Decoder, Due, Stop};
@@ -24,7 +24,8 @@ use message_model::{Fault, InstanceError, Model};
 use std::alloc::{AllocError, Global};
 
 /// A checker of an instance. It keeps the open values, of contents octets that are not whole no more than tell what
-/// they are, and nothing of what is closed; for a reader the pieces of what has come, too.
+/// they are (of an envelope what the check of its fragment holds of an open tag), and nothing of what is closed; for a
+/// reader the pieces of what has come, too.
 #[derive(Drop)]
 pub struct DerChecker {
     pub(crate) alloc: Global,
@@ -98,17 +99,19 @@ impl DerChecker {
 
     /// How many bytes are held of the leaf that is open: of its contents octets those that are kept, where more are
     /// due. At most four are held for each that has come, within the limit of the leaf, and 64. Where no pieces are
-    /// kept they are those of the last character of a text without codes, where it is not whole, and of a binary value
-    /// none. The check of such a text keeps no bytes; any other begins when all have come. None are held after an error.
+    /// kept they are those of the last character of a text without codes, where it is not whole, of a binary value none,
+    /// and of an envelope those that the check of its fragment holds of an open tag. The check of such a text keeps no
+    /// bytes; those of all other leaves begin when all octets have come. None are held after an error.
     pub fn scratch(&self) -> u64
         ensures count { result ≡ held_contents self.now }
         ensures bound { (T : Tables) (bytes : List ℕ) (h : HasFedDer self.now T bytes)
             → IsHeldWithin (open_limit (der_message T) h.reading.read.state) (leaf_come h.reading.read.state h.reading.read.rest) result }
         ensures free { (T : Tables) (bytes : List ℕ) (h : HasFedDer self.now T bytes) → ChecksAlone self.now → OpensFreeText (der_message T) h.reading.read.state → result ≤ 3 }
         ensures binary { (T : Tables) (bytes : List ℕ) (h : HasFedDer self.now T bytes) → ChecksAlone self.now → OpensBinary (der_message T) h.reading.read.state → result ≡ 0 }
-        ensures check { (T : Tables) (bytes : List ℕ) → HasFedDer self.now T bytes → held_by_check self.now ≡ 0 }
+        ensures envelope { (T : Tables) (bytes : List ℕ) (h : HasFedDer self.now T bytes) → ChecksAlone self.now → OpensEnvelope (der_message T) h.reading.read.state → IsHeldOfEnvelope self.now h.reading.read.rest result }
+        ensures check { (T : Tables) (bytes : List ℕ) (h : HasFedDer self.now T bytes) → (OpensEnvelope (der_message T) h.reading.read.state → ⊥) → held_by_check self.now ≡ 0 }
     {
-        self.kept.octets.len() as u64
+        self.kept.count()
     }
 
     /// How many bytes are held of identifier or length octets, where more of them are due: eight at most, and none

@@ -1,5 +1,5 @@
-//! What identifier octets and ends are where they stand.
-ghost use Rattle.std.specs.Prelude.{◌≡◌, ◌↔◌, ◌<◌, ℕ, List, length, slice_get, drop, Some, IfSome, IfNone, IsTrue, IsFalse, true, nat_lt, if◌then◌else◌};
+//! What identifier octets are where they stand.
+ghost use Rattle.std.specs.Prelude.{◌≡◌, ◌↔◌, ℕ, List, slice_get, drop, Some, IfSome, IfNone, IsTrue, IsFalse, true, if◌then◌else◌};
 ghost use Rattle.lexical_core.specs.Tree.{Tree};
 ghost use Rattle.facets.specs.declared.simple.Simple.{Simple as SimpleType};
 ghost use Rattle.der_octets.specs.Octets.{context, universal};
@@ -9,18 +9,18 @@ ghost use Rattle.reference_check.specs.Forms.{Graph, form_slots};
 ghost use Rattle.reference_check.specs.Steps.{has_room};
 ghost use Rattle.message_model.specs.Tables.{types_of, message_of};
 ghost use Rattle.der_model.specs.DerMessage.{in_der};
-ghost use Rattle.der_model.specs.Structures.{components, item_components, amount_components, is_one, is_constructed, component, universal_tag, structure};
+ghost use Rattle.der_model.specs.Structures.{components, item_components, amount_components, is_once, is_constructed, component, universal_tag, structure};
 ghost use Rattle.der_model.specs.Structures as structures;
 ghost use Rattle.der_model.specs.States as states;
-ghost use Rattle.der_model.specs.States.{field_answer, any_answer, one_answer, item_answer, field_end, one_end, item_end, next_number, level_answer, end_answer};
+ghost use Rattle.der_model.specs.States.{field_answer, any_answer, one_answer, item_answer, next_number, level_answer};
 ghost use Rattle.der_codec.specs.Levels.{IsLevel, IsSpot};
-ghost use Rattle.der_codec.specs.Components.{IsFound, IsEnded, NoneDue, IsDue};
+ghost use Rattle.der_codec.specs.Components.{IsFound, NoneDue, IsDue};
 
 use crate::level::{Level, Spot};
 use der_model::{comes_once, is_constructed, simple_number};
 use der_octets::{Identifier, TagClass};
 use lexical_core::Rule;
-use message_model::{Form, MOST_SLOTS, Model};
+use message_model::{Form, Model};
 
 /// What a fault adds to the path of what is open.
 #[derive(Clone, Copy, Debug)]
@@ -46,13 +46,6 @@ pub enum Found {
 struct Field {
     number: u16,
     spot: Spot,
-}
-
-/// What an end is.
-#[derive(Clone, Copy, Debug)]
-pub enum Ended {
-    Fine,
-    Breaks { rule: Rule, added: Added },
 }
 
 fn unexpected() -> Found
@@ -121,7 +114,7 @@ fn field_at(model: &Model, number: u32, id: Identifier) -> Option<Field>
 
 /// Whether what comes under the tag of the slot is constructed.
 fn is_constructed_at(model: &Model, max: Option<u32>, target: u32) -> bool
-    ensures { result ≡ (if is_one max then is_constructed (types_of model.now target) else true) }
+    ensures { result ≡ (if is_once max then is_constructed (types_of model.now target) else true) }
 {
     if !comes_once(max) {
         return true;
@@ -143,32 +136,18 @@ fn spot_at(number: u32, at: u32, max: Option<u32>, target: u32) -> Spot
     }
 }
 
-/// Whether the slot has to come.
-fn is_due(min: u32, max: Option<u32>) -> bool
-    ensures { result ≡ (if is_one max then nat_lt 0 min else true) }
-{
-    if comes_once(max) {
-        return min > 0;
-    }
-    true
-}
-
-/// The first slot from one on, and before another, that has to come.
-#[tactic(auto, using(crate::proofs::ComponentsFound::none_further))]
+/// The first slot from one on, and before another, that has to come: in DER the first that is no option.
+#[tactic(auto, using(crate::proofs::ComponentsFound::due_firm, crate::proofs::ComponentsFound::none_before, crate::proofs::ComponentsFound::none_of_options, crate::proofs::ComponentsFound::none_between))]
 #[inline(always)]
 fn first_due(model: &Model, number: u32, from: u32, to: u32) -> Option<u32>
     ensures some { IfSome result (λ at. IsDue (form_slots (types_of model.now number)) from to at) }
     ensures none { IfNone result (NoneDue (form_slots (types_of model.now number)) from to) }
 {
-    for at in from..to {
-        let Some(slot) = model.slot(number, at) else {
-            return None;
-        };
-        if is_due(slot.min, slot.max) {
-            return Some(at);
-        }
+    if from >= to {
+        return None;
     }
-    None
+    let at = model.first_firm(number, from)?;
+    if at < to { Some(at) } else { None }
 }
 
 /// Any alternative.
@@ -298,117 +277,11 @@ fn in_amount(number: u32, code: u32, next: u32, id: Identifier) -> Found
     }
 }
 
-/// The end of a list, in which so many items have come.
-#[inline(always)]
-fn end_of_list(model: &Model, parent: u32, slot: u32, count: u64) -> Ended
-    ensures { (s : graph.Slot ℕ) → slice_get (form_slots (types_of model.now parent)) slot ≡ Some s → IsEnded (types_of model.now) result (item_end (nat_lt count s.min)) }
-{
-    match model.slot(parent, slot) {
-        None => Ended::Fine,
-        Some(slot) => {
-            if count < u64::from(slot.min) {
-                return Ended::Breaks {
-                    rule: Rule::TooFew,
-                    added: Added::Nothing,
-                };
-            }
-            Ended::Fine
-        }
-    }
-}
-
-/// The end of a sequence, whose next component would have this number.
-#[inline(always)]
-fn end_of_fields(model: &Model, number: u32, next: u32) -> Ended
-    ensures { IsEnded (types_of model.now) result (field_end (drop next (components (types_of model.now) number 0 (form_slots (types_of model.now number))))) }
-{
-    match first_due_from(model, number, next) {
-        None => Ended::Fine,
-        Some(slot) => Ended::Breaks {
-            rule: Rule::DerMissing,
-            added: Added::Slot {
-                parent: number,
-                slot,
-            },
-        },
-    }
-}
-
-/// The first slot from one on that has to come.
-#[tactic(auto, using(crate::proofs::ComponentsFound::due_within, crate::proofs::ComponentsFound::none_due_within))]
-#[inline(always)]
-fn first_due_from(model: &Model, number: u32, from: u32) -> Option<u32>
-    ensures some { IfSome result (λ at. IsDue (form_slots (types_of model.now number)) from (length (form_slots (types_of model.now number))) at) }
-    ensures none { IfNone result (NoneDue (form_slots (types_of model.now number)) from (length (form_slots (types_of model.now number)))) }
-{
-    let _types = model.type_count();
-    first_due(model, number, from, MOST_SLOTS)
-}
-
-/// The end of an amount, whose next component would have this number.
-fn end_of_amount(next: u32) -> Ended
-    ensures { (types : Graph ℕ SimpleType) (number code : ℕ) → IsEnded types result (field_end (drop next (amount_components number code))) }
-{
-    if next == 0 {
-        return Ended::Breaks {
-            rule: Rule::DerMissing,
-            added: Added::Currency,
-        };
-    }
-    if next == 1 {
-        return Ended::Breaks {
-            rule: Rule::DerMissing,
-            added: Added::Nothing,
-        };
-    }
-    Ended::Fine
-}
-
 /// Whether the class is that of the tags in a value.
 fn is_context(class: TagClass) -> bool
     ensures { IsTrue result ↔ (class ≡ TagClass.Context) }
 {
     matches!(class, TagClass::Context)
-}
-
-/// What the end is of an open value.
-#[inline(always)]
-pub fn end_of(model: &Model, level: &Level) -> Ended
-    ensures { (fragment : Tree → List ℕ) (l : states.DerLevel ℕ) → IsLevel (types_of model.now) level.now l
-        → IsEnded (types_of model.now) result (end_answer (structure (in_der fragment (message_of model.now)) l.spot) l.came) }
-{
-    match level.spot {
-        Spot::Instance => end_of_type(model, 0, level.next),
-        Spot::Value(number) => end_of_type(model, number, level.next),
-        Spot::List { parent, slot } => end_of_list(model, parent, slot, level.count),
-        Spot::Number(_) => Ended::Fine,
-    }
-}
-
-/// The end of a value of a type, whose next component would have this number.
-#[inline(always)]
-fn end_of_type(model: &Model, number: u32, next: u32) -> Ended
-    ensures { (fragment : Tree → List ℕ) (came : List ℕ) → next ≡ next_number came → IsEnded (types_of model.now) result (end_answer (structure (in_der fragment (message_of model.now)) (structures.Value number)) came) }
-{
-    match model.form(number) {
-        Some(Form::Sequence) => end_of_fields(model, number, next),
-        Some(Form::Choice) => end_of_choice(next),
-        Some(Form::Money { code: _, base: _ }) => end_of_amount(next),
-        _ => Ended::Fine,
-    }
-}
-
-/// The end of a choice, in which an alternative has come where the number is not 0.
-fn end_of_choice(next: u32) -> Ended
-    ensures { (types : Graph ℕ SimpleType) (came : List ℕ) → next ≡ next_number came → IsEnded types result (one_end came) }
-{
-    if next == 0 {
-        return Ended::Breaks {
-            rule: Rule::DerMissing,
-            added: Added::Any,
-        };
-    }
-    Ended::Fine
 }
 
 /// What identifier octets are in an open value.

@@ -12,9 +12,10 @@ ghost use Rattle.der_codec.specs.inner.OpenNames.{IsNamed};
 ghost use Rattle.der_codec.specs.Judging.{HoldsContents};
 
 use crate::checks::Refusal;
-use crate::components::{Added, Ended, end_of};
+use crate::components::Added;
 use crate::level::{Level, Spot};
 use crate::paths::{path_outside, path_within};
+use crate::value_ends::{Ended, end_of};
 use der_octets::{LengthStep, TagStep};
 use lexical_core::{Rule, Text};
 use message_model::Model;

@@ -212,12 +212,7 @@ pub(crate) fn append(builder: &mut Builder, leaf: &LeafRef<'_>) -> Result<(), Al
     ensures room { GrowsRoom (Some builder.old) (Some builder.new) }
     ensures within { HoldsMore builder.old (Holds (leaf_of leaf.now) ∷ []) → IsOk result }
 {
-    match leaf {
-        LeafRef::Bytes(bytes) => builder.leaf(LeafRef::Bytes(bytes)),
-        LeafRef::Number(number) => builder.leaf(LeafRef::Number(*number)),
-        LeafRef::Flag(flag) => builder.leaf(LeafRef::Flag(*flag)),
-        LeafRef::Code(place) => builder.leaf(LeafRef::Code(*place)),
-    }
+    builder.leaf_from(leaf)
 }
 
 /// An element ends, where there is one.

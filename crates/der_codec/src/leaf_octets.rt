@@ -17,9 +17,9 @@ use crate::checker::DerChecker;
 use crate::checks::Refusal;
 use crate::contents::tell;
 use crate::decoder::{Due, Stop};
-use crate::held::{OpenLeaf, begin_leaf};
 use crate::level::Spot;
 use crate::limits::shorten;
+use crate::open_leaf::{OpenLeaf, begin_leaf};
 use message_model::Model;
 use std::alloc::AllocError;
 
@@ -154,7 +154,7 @@ impl DerChecker {
     /// for that.
     fn hold(&mut self, model: &Model, spot: Spot, front: &[u8]) -> Result<(), AllocError>
         requires checks { CheckTypes (types_of model.now) self.old.checks }
-        requires given { (octets : List ℕ) × HoldsAllOf (der_message model.now) spot self.old.decoder self.old.kept self.old.pieces octets }
+        requires given { (octets : List ℕ) × HoldsAllOf (der_message model.now) spot self.old.decoder self.old.kept self.old.pieces octets × (length octets + length front.now < 2 ^ 40) }
         ensures kept { (octets : List ℕ) → HoldsAllOf (der_message model.now) spot self.old.decoder self.old.kept self.old.pieces octets
             → OnOk result (HoldsAt (der_message model.now) spot self.new.pieces self.new.kept.leaf self.new.kept.octets.items (octets ++ front.now)) }
         ensures checks { CheckTypes (types_of model.now) self.new.checks }
@@ -194,7 +194,7 @@ impl DerChecker {
     fn hold_alone(&mut self, model: &Model, spot: Spot, front: &[u8]) -> Result<(), AllocError>
         requires alone { self.old.pieces ≡ None }
         requires checks { CheckTypes (types_of model.now) self.old.checks }
-        requires given { (octets : List ℕ) × HoldsAllOf (der_message model.now) spot self.old.decoder self.old.kept self.old.pieces octets }
+        requires given { (octets : List ℕ) × HoldsAllOf (der_message model.now) spot self.old.decoder self.old.kept self.old.pieces octets × (length octets + length front.now < 2 ^ 40) }
         ensures kept { (octets : List ℕ) → HoldsAllOf (der_message model.now) spot self.old.decoder self.old.kept self.old.pieces octets
             → OnOk result (HoldsAlone (der_message model.now) spot self.new.kept.leaf self.new.kept.octets.items (octets ++ front.now)) }
         ensures checks { CheckTypes (types_of model.now) self.new.checks }
@@ -289,7 +289,7 @@ impl DerChecker {
         requires room { der_bytes_fed self.old + length front.now ≤ 2 ^ 40 }
         requires checks { CheckTypes (types_of model.now) self.old.checks }
         requires opened { (leaf : OpenLeaf) × (self.old.kept.leaf ≡ Some leaf) }
-        requires given { (octets : List ℕ) × HoldsAllOf (der_message model.now) spot self.old.decoder self.old.kept self.old.pieces octets }
+        requires given { (octets : List ℕ) × (length octets < der_bytes_fed self.old) × HoldsAllOf (der_message model.now) spot self.old.decoder self.old.kept self.old.pieces octets }
         ensures checks { CheckTypes (types_of model.now) self.new.checks }
         ensures judged { (octets : List ℕ) → HoldsAllOf (der_message model.now) spot self.old.decoder self.old.kept self.old.pieces octets → IsVerdictFor (der_message model.now) spot (octets ++ front.now) result }
         ensures leaf { (octets : List ℕ) → HoldsAllOf (der_message model.now) spot self.old.decoder self.old.kept self.old.pieces octets → IfOk result (λ _. HoldsLeafAt (der_message model.now) spot (octets ++ front.now) (Bytes (octets ++ front.now))) }

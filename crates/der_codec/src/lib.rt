@@ -4,12 +4,12 @@
 //! takes the octets of headers (components of the usual form as a whole, `usual`, `begun`) and the ends of values, and
 //! `contents` judges the contents octets of leaves; of those that come in pieces `limits` keeps no more than tell what
 //! they are, so that no length which is declared decides how much is held (`scratch`, `token`). Where no pieces are
-//! kept a text without codes and a binary value are judged as their octets come (`held`, `open_text`). A fault's path
-//! is made of what is open (`paths`). `Checking` of `specs/` says what a checker was given and what it answers,
-//! `Decoding` the same of the decoder, `Limits` how many octets are held, `OpenLeaves` what is held of a leaf that is
-//! judged as they come. `DerReader` answers the same, and gives the pieces of the instance: it is a checker that
-//! appends them as the parts come (`values`, `pieces`, those of a component of the usual form as a whole, `shown`), and
-//! keeps no more of its input (`KeptPieces`).
+//! kept a text without codes, a binary value and an envelope are judged as their octets come (`open_leaf`, `open_text`,
+//! `open_envelope`). A fault's path is made of what is open (`paths`). `Checking` of `specs/` says what a checker was
+//! given and what it answers, `Decoding` the same of the decoder, `Limits` how many octets are held, `OpenLeaves` what
+//! is held of a leaf that is judged as they come. `DerReader` answers the same, and gives the pieces of the instance: it
+//! is a checker that appends them as the parts come (`values`, `pieces`, those of a component of the usual form as a
+//! whole, `shown`), and keeps no more of its input (`KeptPieces`).
 //!
 //! Of a message `Note` with a text `Id`, `feed` of `30 04 A0 02 81` answers the rule `UnexpectedTag` at 4 in
 //! `/Document[1]/Note[1]` with the last octet, whether they come at once or one by one: `Id` is the slot 0, and its tag 80.
@@ -32,6 +32,8 @@ mod leaf_octets;
 mod leaves;
 mod level;
 mod limits;
+mod open_envelope;
+mod open_leaf;
 mod open_text;
 mod paths;
 mod pieces;
@@ -41,6 +43,7 @@ mod reserved;
 mod room;
 mod shown;
 mod usual;
+mod value_ends;
 mod values;
 
 pub use checker::DerChecker;

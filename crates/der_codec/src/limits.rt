@@ -5,9 +5,10 @@ ghost use Rattle.data_types.specs.declared.kind.Kind.TheVariants as kind;
 ghost use Rattle.facets.specs.LeafChecks.{IsWithinLimits};
 ghost use Rattle.facets.specs.LeafUnder.{HasSortedCodes};
 ghost use Rattle.facets.specs.PatternChecks.{IsDateKind};
+ghost use Rattle.reference_check.specs.Forms as graph;
+ghost use Rattle.message_model.specs.Tables.{types_of};
 ghost use Rattle.der_model.specs.DerMessage.{der_message};
 ghost use Rattle.der_codec.specs.KeptOctets.{IsKeptUnder, IsKeptAt, IsLeafAt, HasNoLimit, IsShortForm, IsTextKept};
-ghost use Rattle.der_codec.specs.OpenLeaves.{IsTypeAt, IsOpenSpot};
 
 use crate::level::Spot;
 use data_types::Kind;
@@ -44,8 +45,7 @@ fn simple_at(model: &Model, spot: Spot) -> Option<&Simple>
 /// The simple type of a leaf that is the value of a type.
 pub(crate) fn value_at(model: &Model, number: u32) -> Option<&Simple>
     ensures some { IfSome result (λ simple. IsLeafAt (der_message model.now) (Spot.Value number) simple.now) }
-    ensures typed { IfSome result (λ simple. IsTypeAt (der_message model.now) (Spot.Value number) simple.now) }
-    ensures other { IfNone result (IsOpenSpot (der_message model.now) (Spot.Value number) → ⊥) }
+    ensures typed { IfSome result (λ simple. types_of model.now number ≡ graph.Simple simple.now) }
     ensures none { IfNone result (HasNoLimit (der_message model.now) (Spot.Value number)) }
 {
     let _ = model.type_count();

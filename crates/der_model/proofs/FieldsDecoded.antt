@@ -16,7 +16,7 @@ use Rattle.reference_check.proofs.Words.{times-replicate, times-append}
 use Rattle.message_model.specs.Admits.{numbers_of}
 use Rattle.message_model.specs.Admits.{AdmitsAs, AdmitsChildren}
 use Rattle.der_model.specs.DerMessage.{DerMessage}
-use Rattle.der_model.specs.Structures.{form_structure, component, components, is_one, is_single, is_constructed}
+use Rattle.der_model.specs.Structures.{form_structure, component, components, is_once, is_single, is_constructed}
 use Rattle.der_model.specs.Der.{Body, Octets, under, slot_values, all_slots, body, values_at}
 use Rattle.der_model.specs.States.{Fine, field_end, next_number}
 use Rattle.der_model.specs.Faults.{IsHeldIn}
@@ -138,7 +138,7 @@ one_value m fs k s b there single from = record {
 pub one_within : {P : Type 0} (s : Slot P) → is_single s ≡ true → UpTo s.min s.max → MayComeTimes 1 s
 one_within s e u = go s.max e u
   where
-    go : (o : Option ℕ) → is_one o ≡ true → UpTo s.min o → (s.min ≤ 1) × UpTo 1 o
+    go : (o : Option ℕ) → is_once o ≡ true → UpTo s.min o → (s.min ≤ 1) × UpTo 1 o
     go None e u = absurd (let q : false ≡ true = e in cc)
     go (Some most) e u = (let same = number most e in (omega arith, omega arith))
       where

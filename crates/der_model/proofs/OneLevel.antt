@@ -10,6 +10,7 @@ use Rattle.der_octets.specs.Octets.{Tag}
 use Rattle.reference_check.proofs.Words.{has_room_of, up_to_filled, up_to_less}
 use Rattle.reference_check.specs.Words.{UpTo}
 use Rattle.reference_check.specs.Steps.{has_room}
+use Rattle.message_model.proofs.Ahead.{drop_get}
 use Rattle.der_model.specs.Structures.{Component, Structure, Holds, Fields, OneOf, Items, Empty}
 use Rattle.der_model.specs.States.{IdentifierAnswer, Begins, Breaks, Fine, EndBreaks, is_under, field_answer, any_answer, next_number, item_answer, identifier_answer, field_end, item_end, end_answer, missing_text}
 use Rattle.der_model.specs.OpenParts.{AreInOrder, MayHoldComponents, components_of}
@@ -39,17 +40,6 @@ apart_drop : {P : Type 0} (n : ℕ) (cs : List (Component P)) → AreApart cs �
 apart_drop zero cs h = h
 apart_drop (suc n) [] h = h
 apart_drop (suc n) (c ∷ cs) h = apart_drop n cs h.1
-
-pub drop_get : {A : Type 0} (n i : ℕ) (xs : List A) → slice_get (drop n xs) i ≡ slice_get xs (n + i)
-drop_get zero i xs = ap (slice_get xs) (zero_add i)
-  where
-    zero_add : (i : ℕ) → i ≡ 0 + i
-    zero_add i = omega arith
-drop_get (suc n) i [] = refl
-drop_get (suc n) i (x ∷ xs) = drop_get n i xs ∙ ap (slice_get (x ∷ xs)) (suc_add n i)
-  where
-    suc_add : (n i : ℕ) → suc (n + i) ≡ suc n + i
-    suc_add n i = omega arith
 
 -- ---- components in order
 

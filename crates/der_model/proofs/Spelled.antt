@@ -19,7 +19,7 @@ use Rattle.message_model.specs.Admits.{AdmitsAs, AdmitsChildren, FitsCode}
 use Rattle.message_model.specs.Sound.{IsNoOption}
 use Rattle.der_model.specs.LeafContents.{leaf_contents}
 use Rattle.der_model.specs.DerMessage.{DerMessage}
-use Rattle.der_model.specs.Structures.{Instance, ListOf, Component, Structure, Fields, OneOf, Items, structure, form_structure, component, components, item_components, number_structure, is_one, is_single, is_constructed, universal_tag}
+use Rattle.der_model.specs.Structures.{Instance, ListOf, Component, Structure, Fields, OneOf, Items, structure, form_structure, component, components, item_components, number_structure, is_once, is_single, is_constructed, universal_tag}
 use Rattle.der_model.specs.Structures as structures
 use Rattle.der_model.specs.Der.{Body, Octets, Inner, under, inner_of, item, placed_value, slot_values, all_slots, chosen_slot, alternative, body, values_at}
 use Rattle.der_model.specs.States.{Begins, Fine, is_under, field_answer, any_answer, field_end, item_answer, item_end, next_number}
@@ -179,7 +179,7 @@ fits_shape m p form.Envelope b fits = fits
 fits_shape m p form.LeftOut b fits = fits
 fits_shape m p form.Missing b fits = fits
 
-pub at_most_one : (n : ℕ) (o : Option ℕ) → is_one o ≡ true → UpTo n o → n ≤ 1
+pub at_most_one : (n : ℕ) (o : Option ℕ) → is_once o ≡ true → UpTo n o → n ≤ 1
 at_most_one n None e h = absurd (let f : false ≡ true = e in cc)
 at_most_one n (Some most) e h = one n most e h
   where

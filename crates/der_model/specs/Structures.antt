@@ -1,11 +1,12 @@
 -- What stands in the DER of a message: each value with the tags of what it may hold (the table of the message's types as ASN.1).
-use Rattle.std.specs.Prelude.{ℕ, suc, ◌==◌, Bool, true, false, List, [], ◌∷◌, Option, Some, None, nat_lt, if◌then◌else◌, codes}
+use Rattle.std.specs.Prelude.{ℕ, suc, Bool, true, false, List, [], ◌∷◌, Option, Some, nat_lt, if◌then◌else◌, codes}
 use Rattle.data_types.specs.declared.kind.Kind.{Kind}
 use Rattle.data_types.specs.declared.kind.Kind.TheVariants as kind
 use Rattle.facets.specs.declared.simple.Simple.{Simple}
 use Rattle.der_octets.specs.Octets.{Tag, universal, context}
 use Rattle.reference_check.specs.Forms.{Graph, Form, Slot}
 use Rattle.reference_check.specs.Forms as form
+pub use Rattle.message_model.specs.Options.{is_once}
 use Rattle.der_model.specs.DerMessage.{DerMessage}
 
 -- a value of the DER: the whole instance, a value of a type, the list of a slot, the number of an amount of a type
@@ -43,13 +44,9 @@ pub data Structure (P : Type 0) : Type 0 where
   Items : (slot : Slot P) → List (Component P) → Structure P
   Empty : Structure P
 
-abbrev pub is_one : Option ℕ → Bool
-is_one None = false
-is_one (Some n) = n == 1
-
 -- a slot with the maximum 1 has its value in the place of a list
 abbrev pub is_single : {P : Type 0} → Slot P → Bool
-is_single s = is_one s.max
+is_single s = is_once s.max
 
 -- a value of the form is constructed: SEQUENCE, CHOICE under an explicit tag
 abbrev pub is_constructed : {P : Type 0} → Form P Simple → Bool

@@ -1,7 +1,7 @@
 //! What stands in the DER of a message, as its readers and writers ask it: X.680 §8.4, X.690 §8.9, §8.14.
 ghost use Rattle.std.specs.Prelude.{◌≡◌, ◌<◌};
 ghost use Rattle.message_model.specs.Tables.{types_of};
-ghost use Rattle.der_model.specs.Structures.{is_constructed, is_one, simple_number};
+ghost use Rattle.der_model.specs.Structures.{is_constructed, is_once, simple_number};
 
 use data_types::Kind;
 use facets::Simple;
@@ -9,7 +9,7 @@ use message_model::{Form, Model};
 
 /// Whether a slot with this maximum has its value in the place of a list.
 pub fn comes_once(max: Option<u32>) -> bool
-    ensures { result ≡ is_one max }
+    ensures { result ≡ is_once max }
 {
     match max {
         None => false,

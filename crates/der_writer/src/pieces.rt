@@ -4,7 +4,7 @@ ghost use Rattle.data_types.specs.Leaf.{Leaf};
 ghost use Rattle.der_octets.specs.Octets.{context};
 ghost use Rattle.message_model.specs.Tables.{types_of};
 ghost use Rattle.der_model.specs.LeafContents.{leaf_contents};
-ghost use Rattle.der_model.specs.Structures.{is_one};
+ghost use Rattle.der_model.specs.Structures.{is_once};
 ghost use Rattle.der_writer.specs.inner.PieceOctets.{Before as BeforeOf, next_slot, goes_on, head, first_leaf, item_head, leaf_octets};
 ghost use Rattle.der_writer.specs.inner.Heads.{head_octets, before_view};
 
@@ -59,7 +59,7 @@ pub(crate) fn first_list(next: u64, slot: u32) -> Option<Head>
 /// The head of an empty list of a slot with this maximum.
 pub(crate) fn empty_head(slot: u32, max: Option<u32>) -> Option<Head>
     requires { slot < 16384 }
-    ensures { head_octets result 0 ≡ (if is_one max then [] else head true (context slot) 0) }
+    ensures { head_octets result 0 ≡ (if is_once max then [] else head true (context slot) 0) }
 {
     if comes_once(max) {
         return None;

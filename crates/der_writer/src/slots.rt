@@ -1,11 +1,12 @@
 //! The slots in which nothing has come: X.690 §8.10, a list of no items.
-ghost use Rattle.std.specs.Prelude.{◌≡◌, ◌-◌, ◌≤◌, true, false, [], take, drop, length};
+ghost use Rattle.std.specs.Prelude.{◌≡◌, ◌+◌, ◌-◌, ◌<◌, ◌≤◌, true, false, [], ◌++◌, take, drop, length, IfSome, IfNone};
 ghost use Rattle.outside.specs.Pushes.{Pushes};
 ghost use Rattle.reference_check.specs.Forms.{form_slots};
 ghost use Rattle.message_model.specs.Tables.{types_of};
 ghost use Rattle.der_writer.specs.inner.PieceOctets.{empty_slots, sequence_slots, slots_behind};
-ghost use Rattle.der_writer.specs.inner.Heads.{before_view};
+ghost use Rattle.der_writer.specs.inner.Heads.{head_octets, before_view};
 
+use crate::head::Head;
 use crate::heads::{head_size, push_head};
 use crate::pieces::{Before, empty_head, next_slot};
 use message_model::{Form, MOST_SLOTS, Model};
@@ -26,6 +27,36 @@ pub(crate) fn is_sequence(model: &Model, number: u32) -> bool
     }
 }
 
+/// A slot that is no option, and the head of its empty list; none where it has no list.
+#[derive(Clone, Copy)]
+struct Firm {
+    at: u32,
+    head: Option<Head>,
+}
+
+/// The first slot of a type from one on, and before another, that is no option. Where an option does not come, nothing
+/// stands for it.
+#[inline(always)]
+fn firm_between(model: &Model, number: u32, from: u32, to: u32) -> Option<Firm>
+    ensures within { IfSome result (λ firm. (from ≤ firm.at) × (firm.at < to) × (firm.at < 4096)) }
+    ensures some { IfSome result (λ firm. empty_slots from (take (to - from) (drop from (form_slots (types_of model.now number))))
+        ≡ head_octets firm.head 0 ++ empty_slots (firm.at + 1) (take (to - (firm.at + 1)) (drop (firm.at + 1) (form_slots (types_of model.now number))))) }
+    ensures none { IfNone result (empty_slots from (take (to - from) (drop from (form_slots (types_of model.now number)))) ≡ []) }
+{
+    let _count = model.type_count();
+    let Some(at) = model.first_firm(number, from) else {
+        return None;
+    };
+    if at >= to {
+        return None;
+    }
+    let slot = model.slot(number, at)?;
+    Some(Firm {
+        at,
+        head: empty_head(at, slot.max),
+    })
+}
+
 /// Pushes the slots of a type from one on and before another, in which nothing has come.
 #[inline(never)]
 fn push_empty<O: Sink>(
@@ -37,14 +68,15 @@ fn push_empty<O: Sink>(
 ) -> Result<(), SinkError>
     ensures { Pushes O.held O.faults O.room sink.old sink.new result (empty_slots from (take (to - from) (drop from (form_slots (types_of model.now number))))) }
 {
-    let _count = model.type_count();
-    for k in from..to as u64 {
-        let Some(slot) = model.slot(number, k as u32) else {
+    let mut next = from;
+    while next < to as u64 {
+        let Some(firm) = firm_between(model, number, next as u32, to) else {
             return Ok(());
         };
-        if let Err(error) = push_head(empty_head(k as u32, slot.max), 0, sink) {
+        if let Err(error) = push_head(firm.head, 0, sink) {
             return Err(error);
         }
+        next = firm.at as u64 + 1;
     }
     Ok(())
 }
@@ -55,13 +87,14 @@ fn empty_size(model: &Model, number: u32, from: u64, to: u32) -> u64
     ensures size { result ≡ length (empty_slots from (take (to - from) (drop from (form_slots (types_of model.now number))))) }
     ensures most { result ≤ 49152 }
 {
-    let _count = model.type_count();
     let mut size = 0;
-    for k in from..to as u64 {
-        let Some(slot) = model.slot(number, k as u32) else {
+    let mut next = from;
+    while next < to as u64 {
+        let Some(firm) = firm_between(model, number, next as u32, to) else {
             return size;
         };
-        size += head_size(empty_head(k as u32, slot.max), 0);
+        size += head_size(firm.head, 0);
+        next = firm.at as u64 + 1;
     }
     size
 }

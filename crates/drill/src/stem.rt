@@ -149,7 +149,7 @@ fn push_name(builder: &mut Builder, name: &[u8]) -> Result<(), AllocError>
 {
     builder.begin(NAME)?;
     let leaf = leaf_of_bytes(name);
-    hold(builder, &leaf)?;
+    builder.leaf_from(&leaf)?;
     builder.close()?;
     Ok(())
 }
@@ -159,17 +159,4 @@ fn leaf_of_bytes(bytes: &[u8]) -> LeafRef<'_>
     ensures { leaf_of result ≡ Bytes bytes.now }
 {
     LeafRef::Bytes(bytes)
-}
-
-/// Appends a leaf.
-fn hold(builder: &mut Builder, leaf: &LeafRef<'_>) -> Result<(), AllocError>
-    ensures { OnOk result (builder.new.pieces ≡ builder.old.pieces ++ Holds (leaf_of leaf.now) ∷ []) }
-{
-    // Made anew in each arm: `builder.leaf(*leaf)` has no rule (docs/PROOFS.md).
-    match leaf {
-        LeafRef::Bytes(bytes) => builder.leaf(LeafRef::Bytes(bytes)),
-        LeafRef::Number(number) => builder.leaf(LeafRef::Number(*number)),
-        LeafRef::Flag(flag) => builder.leaf(LeafRef::Flag(*flag)),
-        LeafRef::Code(place) => builder.leaf(LeafRef::Code(*place)),
-    }
 }

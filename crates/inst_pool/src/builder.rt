@@ -1,5 +1,5 @@
 //! A builder of instances.
-ghost use Rattle.std.specs.Prelude.{◌≡◌, ◌+◌, ◌<◌, ◌≤◌, List, [], ◌∷◌, ◌++◌, length, slice_get, Some, OnOk, OnErr, IfOk, IsOk, vec_capacity};
+ghost use Rattle.std.specs.Prelude.{◌≡◌, ◌+◌, ◌<◌, ◌≤◌, List, [], ◌∷◌, ◌++◌, length, replicate, slice_get, Some, OnOk, OnErr, IfOk, IsOk, vec_capacity};
 ghost use Rattle.std.specs.Option.{option_map};
 ghost use Rattle.data_types.specs.Leaf.{Leaf, Bytes as BytesLeaf, octet_count};
 ghost use Rattle.data_types.specs.LeafAnswers.{leaf_of};
@@ -129,6 +129,22 @@ impl Builder {
         }
     }
 
+    /// The same of a leaf that is lent.
+    #[inline(always)]
+    pub fn leaf_from(&mut self, leaf: &LeafRef<'_>) -> Result<(), AllocError>
+        ensures ok { OnOk result (self.new.pieces ≡ self.old.pieces ++ Holds (leaf_of leaf.now) ∷ []) }
+        ensures err { OnErr result (self.new.pieces ≡ self.old.pieces) }
+        ensures within { 0 < spare_nodes self.old → octet_count (leaf_of leaf.now) ≤ spare_bytes self.old → IsOk result }
+        ensures room { (self.old.node_room ≤ self.new.node_room) × (self.old.byte_room ≤ self.new.byte_room) }
+    {
+        match leaf {
+            LeafRef::Bytes(bytes) => self.hold_bytes(bytes),
+            LeafRef::Number(number) => self.hold(Content::Number(*number)),
+            LeafRef::Flag(flag) => self.hold(Content::Flag(*flag)),
+            LeafRef::Code(place) => self.hold(Content::Code(*place)),
+        }
+    }
+
     /// A leaf without bytes.
     fn hold(&mut self, content: Content) -> Result<(), AllocError>
         requires { (leaf : Leaf) × (plain_leaf content ≡ Some leaf) }
@@ -158,10 +174,12 @@ impl Builder {
         Ok(())
     }
 
-    /// The instance, where every element is closed.
+    /// The instance, where every element is closed. The numbers beside its pieces are 0.
     pub fn finish(self) -> Instance
         requires { open_in self.pieces ≡ [] }
-        ensures { result.region ≡ self }
+        ensures region { result.region ≡ self }
+        ensures lens { result.lens ≡ replicate (length self.pieces) 0 }
+        ensures groups { result.groups ≡ replicate (length self.pieces) 0 }
     {
         Instance::of(self.blocks)
     }

@@ -1,5 +1,5 @@
 //! An instance in its region.
-ghost use Rattle.std.specs.Prelude.{◌≡◌, ◌<◌, [], length, slice_get, slice_index, slice_set};
+ghost use Rattle.std.specs.Prelude.{◌≡◌, ◌<◌, [], length, replicate, slice_get, slice_index, slice_set};
 ghost use Rattle.std.specs.Option.{option_map};
 ghost use Rattle.inst_pool.specs.Blocks.{AreBuilding, region_of};
 ghost use Rattle.inst_pool.specs.Pieces.{piece_of, empty_region, IsRegionBounded};
@@ -32,7 +32,9 @@ impl Instance {
     pub(crate) fn of(mut blocks: Blocks) -> Instance
         requires building { AreBuilding blocks }
         requires opened { blocks.opened.items ≡ [] }
-        ensures { result.region ≡ region_of blocks }
+        ensures region { result.region ≡ region_of blocks }
+        ensures lens { result.lens ≡ replicate (length blocks.contents.items) 0 }
+        ensures groups { result.groups ≡ replicate (length blocks.contents.items) 0 }
     {
         let count = blocks.contents.len();
         blocks.lens.begin(count);

@@ -88,7 +88,7 @@ impl Pieces {
     fn leaf(&mut self, leaf: &LeafRef<'_>) -> Result<(), AllocError>
         ensures { (s : Shown) → HasShown self.old s → OnOk result (HasShown self.new (with_leaf (leaf_of leaf.now) s)) }
     {
-        hold(&mut self.builder, leaf)
+        self.builder.leaf_from(leaf)
     }
 
     /// The innermost element ends.
@@ -151,20 +151,6 @@ impl Pieces {
     }
 }
 
-/// Appends a leaf.
-fn hold(builder: &mut Builder, leaf: &LeafRef<'_>) -> Result<(), AllocError>
-    ensures ok { OnOk result (builder.new.pieces ≡ builder.old.pieces ++ Holds (leaf_of leaf.now) ∷ []) }
-    ensures err { OnErr result (builder.new.pieces ≡ builder.old.pieces) }
-{
-    // Made anew in each arm: `builder.leaf(*leaf)` has no rule (docs/PROOFS.md).
-    match leaf {
-        LeafRef::Bytes(bytes) => builder.leaf(LeafRef::Bytes(bytes)),
-        LeafRef::Number(number) => builder.leaf(LeafRef::Number(*number)),
-        LeafRef::Flag(flag) => builder.leaf(LeafRef::Flag(*flag)),
-        LeafRef::Code(place) => builder.leaf(LeafRef::Code(*place)),
-    }
-}
-
 /// A leaf of bytes.
 fn leaf_of_bytes(bytes: &[u8]) -> LeafRef<'_>
     ensures { leaf_of result ≡ Bytes bytes.now }
@@ -178,7 +164,7 @@ fn hold_bytes(builder: &mut Builder, bytes: &[u8]) -> Result<(), AllocError>
     ensures err { OnErr result (builder.new.pieces ≡ builder.old.pieces) }
 {
     let leaf = leaf_of_bytes(bytes);
-    hold(builder, &leaf)
+    builder.leaf_from(&leaf)
 }
 
 /// An element begins, where pieces are kept.

@@ -17,5 +17,5 @@ pub returns-clause-ok : goal.returns-clause-ok
 returns-clause-ok c = λ bytes r shows.
     let T = c.args.model.now in
     let d = c.args.self.decoder in
-    subst (λ (z : Region). IsSpelledDerAs T bytes z.pieces) (sym c.finish.ensures)
+    subst (λ (z : Region). IsSpelledDerAs T bytes z.pieces) (sym c.finish.ensures.region)
     (whole_shown T d c.in-Some.builder bytes c.is_sound.ensures.sound (c.if-not-is_over.ensures.yes refl) r (subst (λ z. KeepsShown (der_message T) d z bytes) c.in-Some.is shows))

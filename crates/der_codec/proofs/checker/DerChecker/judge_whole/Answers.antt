@@ -1,6 +1,6 @@
 use Rattle.std.proofs.Common.{rules, ◌≡◌, ◌++◌, Some}
 use Rattle.der_model.specs.DerMessage.{der_message}
-use Rattle.der_codec.specs.declared.held.OpenLeaf.{OpenLeaf}
+use Rattle.der_codec.specs.declared.open_leaf.OpenLeaf.{OpenLeaf}
 use Rattle.der_codec.proofs.OpenSpots.{opened_of, opened_shown}
 use Rattle.der_codec.proofs.checker.DerChecker.judge_whole.Goals as goal
 

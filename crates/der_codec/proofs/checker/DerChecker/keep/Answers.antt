@@ -4,7 +4,7 @@ use Rattle.der_codec.specs.Checking.{IsReading}
 use Rattle.der_codec.specs.OpenLeaves.{HoldsAt}
 use Rattle.der_codec.specs.declared.decoder.Decoder.{Decoder}
 use Rattle.der_codec.specs.declared.decoder.Due.TheVariants as due
-use Rattle.der_codec.proofs.Fed.{all_kept, keep_reading}
+use Rattle.der_codec.proofs.Fed.{come_short, all_kept, keep_reading}
 use Rattle.der_codec.proofs.Keeping.{keeping_as, levels_same, grows_same, not_ok}
 use Rattle.der_codec.proofs.RoomSteps.{kept_enough}
 use Rattle.der_codec.proofs.checker.DerChecker.keep.Goals as goal
@@ -13,7 +13,9 @@ pub hold-requires-clause-given : goal.hold-requires-clause-given
 hold-requires-clause-given c =
     let s = c.args.self.now in
     let g = c.requires.given in
-    (drop s.decoder.start g.0, all_kept c.args.model.now s.decoder s.kept s.pieces g.0 c.args.spot c.args.left c.requires.due (g.1.reading.read, g.1.reading.keeps))
+    let few = come_short c.args.model.now s.decoder g.0 c.args.spot c.args.left c.requires.due g.1.reading.read in
+    let room = c.requires.room in
+    (drop s.decoder.start g.0, all_kept c.args.model.now s.decoder s.kept s.pieces g.0 c.args.spot c.args.left c.requires.due (g.1.reading.read, g.1.reading.keeps), omega (arith, few, room))
 
 pub returns-in-Ok-clause-ok : goal.returns-in-Ok-clause-ok
 returns-in-Ok-clause-ok c = λ bytes h.

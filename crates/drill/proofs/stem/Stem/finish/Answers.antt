@@ -25,5 +25,5 @@ returns c = λ p h.
     let one = one_open p c.args.self c.leave_some.new.self h (c.in_ok-leave_some.ensures p h) in
     let first = c.in_ok-close.ensures.ok root_edge (message_edge ∷ []) one.3 in
     let last = ended_open c.leave_some.new.self.builder.pieces c.close.new.self.pieces root_edge root_edge (message_edge ∷ []) first one.3 in
-    ap (λ r. r.pieces) c.finish.ensures
+    ap (λ r. r.pieces) c.finish.ensures.region
     ∙ all_appended p one.0 c.leave_some.new.self.builder.pieces c.close.new.self.pieces c.close-2.new.self.pieces one.1 one.2 first (c.in_ok-close-2.ensures.ok message_edge [] last)

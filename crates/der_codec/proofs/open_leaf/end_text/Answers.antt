@@ -2,7 +2,7 @@ use Rattle.std.proofs.Common.{rules, ◌≡◌, []}
 use Rattle.std.proofs.lemmas.List.{nil_from_length}
 use Rattle.der_codec.proofs.LeavesJudged.{no_text}
 use Rattle.der_codec.proofs.OpenTexts.{cut_none, text_told}
-use Rattle.der_codec.proofs.held.tell_text.Goals as goal
+use Rattle.der_codec.proofs.open_leaf.end_text.Goals as goal
 
 pub returns-then-not-is_empty-clause-told : goal.returns-then-not-is_empty-clause-told
 returns-then-not-is_empty-clause-told c = λ octets (free, t).

@@ -6,7 +6,7 @@ use Rattle.der_model.specs.Structures.{structure}
 use Rattle.der_model.specs.States.{end_answer}
 use Rattle.der_codec.specs.Levels.{IsSpot}
 use Rattle.der_codec.specs.Components.{IsEnded}
-use Rattle.der_codec.proofs.components.end_of.Goals as goal
+use Rattle.der_codec.proofs.value_ends.end_of.Goals as goal
 
 pub returns-in-Instance : goal.returns-in-Instance
 returns-in-Instance c = λ fragment l is.

@@ -3,7 +3,7 @@ use Rattle.reference_check.specs.Forms.{form_slots}
 use Rattle.message_model.specs.Tables.{types_of}
 use Rattle.der_codec.specs.Components.{slot_text}
 use Rattle.der_codec.proofs.ComponentsFound.{ends_none, ends_due}
-use Rattle.der_codec.proofs.components.end_of_fields.Goals as goal
+use Rattle.der_codec.proofs.value_ends.end_of_fields.Goals as goal
 
 pub returns-in-None : goal.returns-in-None
 returns-in-None c =

@@ -1,7 +1,7 @@
 use Rattle.std.proofs.Common.{◌++◌, sym, subst}
 use Rattle.facets.specs.declared.leaf_verdict.LeafVerdict.{LeafVerdict}
 use Rattle.der_codec.specs.OpenLeaves.{IsOpenText, BeginsNoTextAs}
-use Rattle.der_codec.proofs.held.pass_text.Goals as goal
+use Rattle.der_codec.proofs.open_leaf.pass_text.Goals as goal
 
 pub returns-in-Err-Breaks : goal.returns-in-Err-Breaks
 returns-in-Err-Breaks c = λ before (free, t).
