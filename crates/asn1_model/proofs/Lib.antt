@@ -16,4 +16,6 @@ mod Agreement
 mod Rows
 mod ReadyTypes
 mod Renamed
+mod NameForms
+mod NameRules
 mod ReadyModule

@@ -1,13 +1,15 @@
 -- Names that are given one after the other are apart.
-use Rattle.std.proofs.Common.{◌≡◌, ◌≢◌, ◌⊎◌, inl, inr, ℕ, zero, suc, ◌+◌, ◌<◌, ◌≤◌, ◌^◌, Bool, true, false, ◌||◌, List, [], ◌∷◌, ◌++◌, length, get_or, refl, sym, ap, subst, ◌∙◌, arith, eqb}
-use Rattle.std.specs.Prelude.{if◌then◌else◌}
+use Rattle.std.proofs.Common.{◌≡◌, ◌≢◌, ◌⊎◌, inl, inr, ℕ, zero, suc, ◌+◌, ◌<◌, ◌≤◌, ◌^◌, Bool, true, false, ◌||◌, List, [], ◌∷◌, ◌++◌, length, get_or, Some, refl, sym, ap, subst, ◌∙◌, arith, eqb}
+use Rattle.std.specs.Prelude.{if◌then◌else◌, slice_get}
 use Rattle.std.specs.Fmt.{decimal}
 use Rattle.std.specs.Str.{bytes_eq}
 use Rattle.std.proofs.lemmas.Fmt.{decimal_injective}
 use Rattle.std.proofs.lemmas.Bool.{or_parts}
 use Rattle.std.proofs.lemmas.Bool.Decides.{eqb_tells}
-use Rattle.lexical_core.proofs.EqualBytes.{equal_bytes}
-use Rattle.asn1_model.specs.Names.{is_name_among, candidate, first_free, given_after, hyphen}
+use Rattle.std.proofs.lemmas.Option.{slice_get_within, slice_get-get_or}
+use Rattle.lexical_core.proofs.EqualBytes.{equal_bytes, bytes_equal}
+use Rattle.asn1_model.specs.Names.{is_name_among, candidate, first_free, given_after, given_names, hyphen}
+use Rattle.asn1_model.specs.NameRules.{AreDistinct}
 
 -- ---- tests
 
@@ -114,3 +116,24 @@ pub later_new : (taken ns : List (List ℕ)) (k : ℕ) → AreNew taken ns → k
 later_new taken [] k new lt = absurd (omega arith)
 later_new taken (n ∷ ns) zero new lt = new.0
 later_new taken (n ∷ ns) (suc k) new lt = (or_parts (bytes_eq (get_or ns k []) n) (is_name_among taken (get_or ns k [])) (later_new (n ∷ taken) ns k new.1 (omega arith))).1
+
+-- ---- new names are distinct
+
+-- the first of them stands at no later place
+none_later : (taken ns : List (List ℕ)) (m n : List ℕ) (k : ℕ) → AreNew (m ∷ taken) ns → m ≡ n → slice_get ns k ≡ Some n → ⊥
+none_later taken ns m n k new same e =
+    let within : k < length ns = slice_get_within ns k n e in
+    let there : Some (get_or ns k []) ≡ Some n = sym (slice_get-get_or ns k [] within) ∙ e in
+    let is : get_or ns k [] ≡ m = (let here : get_or ns k [] ≡ n = cc in here ∙ sym same) in
+    let other : bytes_eq (get_or ns k []) m ≡ false = (or_parts (bytes_eq (get_or ns k []) m) (is_name_among taken (get_or ns k [])) (later_new (m ∷ taken) ns k new within)).0 in
+    let x : false ≡ true = sym other ∙ bytes_equal (get_or ns k []) m is in absurd cc
+
+pub new_distinct : (taken ns : List (List ℕ)) → AreNew taken ns → AreDistinct ns
+new_distinct taken [] new i j n e f = absurd cc
+new_distinct taken (m ∷ ns) new zero zero n e f = refl
+new_distinct taken (m ∷ ns) new zero (suc j) n e f = absurd (none_later taken ns m n j new.1 (let same : m ≡ n = cc in same) f)
+new_distinct taken (m ∷ ns) new (suc i) zero n e f = absurd (none_later taken ns m n i new.1 (let same : m ≡ n = cc in same) e)
+new_distinct taken (m ∷ ns) new (suc i) (suc j) n e f = ap suc (new_distinct (m ∷ taken) ns new.1 i j n e f)
+
+pub given_distinct : (names : List (List ℕ)) → length names < 2 ^ 64 → AreDistinct (given_names names)
+given_distinct names few = new_distinct [] (given_names names) (given_are_new [] names (omega arith))

@@ -9,12 +9,16 @@ use Rattle.message_model.specs.Admits.{AdmitsAs}
 use Rattle.message_model.specs.Ready.{IsReady}
 use Rattle.message_model.specs.Tables.{Tables, types_of, message_of}
 use Rattle.message_model.specs.Compiled.{IsReachedList, Compiles, types, place_of}
+use Rattle.message_model.proofs.SoundTables.{tables_sound}
 use Rattle.der_model.specs.DerMessage.{DerMessage, in_der}
 use Rattle.der_model.specs.Der.{SpellsDer, der_of}
 use Rattle.asn1_model.specs.Values.{AsnValue}
 use Rattle.asn1_model.specs.Agreement.{EncodesAs}
+use Rattle.asn1_model.specs.ModuleOf.{module_of}
+use Rattle.asn1_model.specs.NameRules.{HasDistinctNames, HasNameForms}
 use Rattle.asn1_model.specs.Sound.{IsSoundAsn}
 use Rattle.asn1_model.proofs.ReadyTypes.{types_are_sound}
+use Rattle.asn1_model.proofs.NameRules.{distinct_names, name_forms}
 use Rattle.asn1_model.proofs.Renamed.{admits_there, admits_here, der_alike}
 use Rattle.asn1_model.proofs.Agreement.{admits_the_same}
 
@@ -50,3 +54,10 @@ same_instances R m ids T fragment bytes whole ready list made =
       λ x. (let v = same.0 x in (v.0, spells_there R m ids T made fragment bytes v.0 v.1)),
       λ (v, spells). same.1 (v, spells_here R m ids T made fragment bytes v spells),
     )
+
+-- the names of the module are distinct, and have their form
+pub has_distinct_names : (R : Contents) (m : List ℕ) (ids : List (List ℕ)) (T : Tables) → IsRepository R → IsReady R m → IsReachedList R m ids → Compiles R m ids T → HasDistinctNames (module_of T)
+has_distinct_names R m ids T whole ready list made = distinct_names T (tables_sound R m ready ids list T made) (types_are_sound R m whole ready ids list T made)
+
+pub has_name_forms : (R : Contents) (m : List ℕ) (ids : List (List ℕ)) (T : Tables) → IsRepository R → IsReady R m → IsReachedList R m ids → Compiles R m ids T → HasNameForms (module_of T)
+has_name_forms R m ids T whole ready list made = name_forms T (tables_sound R m ready ids list T made) (types_are_sound R m whole ready ids list T made)

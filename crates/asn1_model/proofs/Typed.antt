@@ -114,7 +114,7 @@ insert_length t (u ∷ us) = go (comes_before u t) (insert_length t us)
     go true more = ap suc more
     go false more = refl
 
-sorted_length : (k : ℕ) (ts : List TypeEntry) → length (sorted_from k ts) ≡ length ts
+pub sorted_length : (k : ℕ) (ts : List TypeEntry) → length (sorted_from k ts) ≡ length ts
 sorted_length k [] = refl
 sorted_length k (t ∷ ts) = insert_length (record { number = k; name = t.name }) (sorted_from (suc k) ts) ∙ ap suc (sorted_length (suc k) ts)
 

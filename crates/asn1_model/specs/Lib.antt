@@ -1,6 +1,7 @@
 pub mod Names
 pub mod ModuleOf
 pub mod ModuleText
+pub mod NameRules
 pub mod Constraints
 pub mod Values
 pub mod InstanceValues

@@ -9,6 +9,8 @@ ghost use Rattle.message_model.specs.Compiled.{IsReachedList, Compiles, types};
 ghost use Rattle.message_model.specs.Ready.{IsReady};
 ghost use Rattle.der_model.specs.Der.{SpellsDer};
 ghost use Rattle.asn1_model.specs.Values.{AsnValue};
+ghost use Rattle.asn1_model.specs.ModuleOf.{module_of};
+ghost use Rattle.asn1_model.specs.NameRules.{HasDistinctNames, HasNameForms};
 ghost use Rattle.asn1_model.specs.Sound.{IsSoundAsn};
 ghost use Rattle.asn1_model.specs.Agreement.{EncodesAs, AdmitsTheSame, HasInstanceValue, HasNoOthers};
 
@@ -36,4 +38,14 @@ pub fn compiled_types_are_sound()
 pub fn module_admits_the_instances()
     ensures { (R : Contents) (m : List ℕ) (ids : List (List ℕ)) (T : Tables) (fragment : Tree → List ℕ) (bytes : List ℕ) → IsRepository R → IsReady R m → IsReachedList R m ids → Compiles R m ids T
         → ((a : AsnValue) × EncodesAs fragment T bytes a) ↔ ((v : Value) × SpellsDer (record { forms = types R m; root = document; fragment = fragment }) bytes v) }
+{}
+
+/// In the module of a message that breaks no rule no two types have one name, and no two components, alternatives or codes of a type one identifier.
+pub fn module_has_distinct_names()
+    ensures { (R : Contents) (m : List ℕ) (ids : List (List ℕ)) (T : Tables) → IsRepository R → IsReady R m → IsReachedList R m ids → Compiles R m ids T → HasDistinctNames (module_of T) }
+{}
+
+/// The module of a message that breaks no rule and its types have names of the form of references, none a reserved word, and the parts of its types have identifiers.
+pub fn module_has_name_forms()
+    ensures { (R : Contents) (m : List ℕ) (ids : List (List ℕ)) (T : Tables) → IsRepository R → IsReady R m → IsReachedList R m ids → Compiles R m ids T → HasNameForms (module_of T) }
 {}

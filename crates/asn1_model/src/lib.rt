@@ -3,7 +3,8 @@
 //! `module_of` gives the types that the message's types are in a module under automatic tags, sorted by name, with
 //! names that X.680 has: a name that would come twice gets an ending. What a module means, which values its types have
 //! and the DER of these, is defined of the module alone (`specs/Values.antt`), and `laws` says that the bytes of its
-//! `Document` are those of the instances that the message admits.
+//! `Document` are those of the instances that the message admits, and that its names are distinct and of the form that
+//! X.680 asks (`specs/NameRules.antt`).
 #![tactic(auto)]
 
 mod fields;
