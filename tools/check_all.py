@@ -10,6 +10,7 @@ from concurrent.futures import ThreadPoolExecutor
 from pathlib import Path
 from typing import NamedTuple
 
+from external_codes import note_unused
 from page import BOM
 from program import DONE, FAILED_READ, READ, WORDS, Answer, answer, check, codes_source, fault_of, source
 from rule_sentences import SENTENCES
@@ -143,6 +144,7 @@ def check_all(verb, repository, codes, message, files):
     if not files:
         NOTES.line('isorepo: there is no file to check')
         return WORDS
+    note_unused(repository, codes)
     counts = collections.Counter()
     try:
         worst = check_files(verb, words, files, counts)

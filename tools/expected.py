@@ -1,5 +1,4 @@
 """What a message has at a place of an instance: its types by path, the tags that may come, the texts of a type."""
-import csv
 import difflib
 import re
 
@@ -15,19 +14,22 @@ SHAPES = {'Date': f'{YEAR}-{DAY}', 'DateTime': f'{YEAR}-{DAY}T{CLOCK}', 'Time': 
 ZONE = '(Z|[+-](?P<zone>[0-9]{2}:[0-9]{2}))?'
 TAKEN = (('year', '0001', '9999'), ('month', '01', '12'), ('day', '01', '31'), ('hour', '00', '23'), ('minute', '00', '59'), ('second', '00', '59'))
 MOST_FRACTION = 9
+NUMBERS = ('Amount', 'Rate', 'Quantity')
+# the contents octets of 1 (X.690, section 8.5), and those of 0
+REAL = '03 31 2E 45 2B 30 for 1 and no octets for 0'
 FIRST_CODES = 8
 LONGEST_MEANT = 256
-csv.field_size_limit(2 ** 31 - 1)
 
 
 class Types:
-    """The types of one message, with its external codes; and the identifiers of all messages."""
+    """The types of one message, with its external codes, and the identifiers of all messages; texts are told as XML has them, or as the contents octets that DER has."""
 
-    def __init__(self, entries, message, codes, identifiers):
+    def __init__(self, entries, message, codes, identifiers, is_der):
         self.entries = entries
         self.message = message
         self.codes = codes
         self.identifiers = identifiers
+        self.is_der = is_der
         self.document = Entry('Message', message.name, elements=message.blocks)
 
     def at(self, path):
@@ -47,23 +49,29 @@ class Types:
         own = codes_of(self.entries, next((key for key, it in self.entries.items() if it is entry), None)) if entry.codes else []
         return own or self.codes.get(entry.name, [])
 
+    def code_list(self, entry):
+        """The first codes of a set; in DER they have numbers, by the order of their bytes (docs/FORMATS.md, DER)."""
+        codes = [quoted(code) for code in self.codes_of(entry)]
+        if self.is_der:
+            codes = [f'{number} {quoted(code)}' for number, code in enumerate(sorted(self.codes_of(entry), key=str.encode))]
+        more = f', and {len(codes) - FIRST_CODES} more' if len(codes) > FIRST_CODES else ''
+        return f'one of {", ".join(codes[:FIRST_CODES])}{more}'
+
     def texts(self, entry):
         """The texts of a simple type, in words."""
         if entry.kind in FORMS:
             told = [f'as {FORMS[entry.kind]}']
         elif entry.kind == 'Indicator':
-            told = ['true, false, 1 or 0']
+            told = ['one octet, FF or 00' if self.is_der else 'true, false, 1 or 0']
         elif entry.kind == 'Binary':
-            told = ['base64', *lengths(entry.facets, 'octets')]
-        elif entry.kind in ('Amount', 'Rate', 'Quantity'):
-            told = ['a number', *digits(entry.facets)]
+            told = [*([] if self.is_der else ['base64']), *lengths(entry.facets, 'octets')] or ['any octets']
+        elif entry.kind in NUMBERS:
+            told = ['a number', f'as {REAL if self.is_der else decimal(entry.facets)}', *digits(entry.facets)]
         elif entry.kind == 'CodeSet' and self.codes_of(entry):
-            codes = self.codes_of(entry)
-            more = f', and {len(codes) - FIRST_CODES} more' if len(codes) > FIRST_CODES else ''
-            return f'one of {", ".join(codes[:FIRST_CODES])}{more}'
+            return self.code_list(entry)
         else:
             told = lengths(entry.facets, 'characters')
-        if 'pattern' in entry.facets and entry.kind not in ('Amount', 'Rate', 'Quantity', 'Indicator', 'Binary'):
+        if 'pattern' in entry.facets and entry.kind not in (*NUMBERS, 'Indicator', 'Binary'):
             told.append(f'of the pattern {entry.facets["pattern"]}')
         return ', '.join(told) or 'any text'
 
@@ -77,12 +85,24 @@ class Types:
         return f'{entry.name}: {self.texts(entry)}{currency}'
 
 
+def quoted(code):
+    """A code in backquotes, which show the spaces at its ends."""
+    return f'`{code}`'
+
+
 def lengths(facets, unit):
     least = facets.get('length', facets.get('minLength', '0'))
     most = facets.get('length', facets.get('maxLength'))
     if most is None:
         return [f'at least {least} {unit}'] if int(least) else []
     return [f'{most} {unit}' if least == most else f'{least} to {most} {unit}']
+
+
+def decimal(facets):
+    """A number of no more digits than its type takes."""
+    most = int(facets.get('totalDigits', '6'))
+    behind = min(2, most - 1, int(facets.get('fractionDigits', '2')))
+    return '1234'[:most - behind] + '.56'[:behind + 1 if behind else 0]
 
 
 def digits(facets):
@@ -93,6 +113,13 @@ def digits(facets):
         told.append(f'at most {facets["fractionDigits"]} behind the point')
     words = {'minInclusive': 'at least', 'minExclusive': 'above', 'maxInclusive': 'at most', 'maxExclusive': 'below'}
     return told + [f'{words[name]} {facets[name]}' for name in words if name in facets]
+
+
+def digits_in(text):
+    """How many digits a number has with the least scale, and how many of them behind the point."""
+    whole, _, fraction = text.lstrip('+-').partition('.')
+    whole, fraction = whole.lstrip('0'), fraction.rstrip('0')
+    return len(whole + fraction) if whole else len(fraction.lstrip('0')), len(fraction)
 
 
 def last_day(month, year):
@@ -161,14 +188,3 @@ def bounds_of(element):
     """How often an element comes, where it is not just once."""
     told = [f'at least {times(element.least)}'] if element.least > 1 else []
     return told + ([] if element.most is None else [f'at most {times(element.most)}'])
-
-
-def read_codes(path):
-    """The external codes of a file by the name of their set."""
-    codes = {}
-    if path != '-':
-        with open(path, encoding='utf-8-sig', errors='replace', newline='') as file:
-            for record in csv.reader(file):
-                if len(record) == 2:
-                    codes.setdefault(record[0], {})[record[1]] = None
-    return {name: list(texts) for name, texts in codes.items()}

@@ -1,16 +1,21 @@
 """What a message has where an instance is refused, and which part of the line breaks the rule, for each rule."""
-from expected import FORMS, bounds_of, closest, date_fault, may_come, times
+import re
+
+from expected import FORMS, NUMBERS, bounds_of, closest, date_fault, digits_in, may_come, quoted
 from faults_of_markup import bad_declaration, bad_octet, first_twice, is_closer, markup_expected
-from page import BOM, LINE_END, WIDTH
+from page import LINE_END, WIDTH, is_visible, sign
 from pattern_match import how_far
-from repository_file import COMPONENTS, MOST_DIGITS, NAMESPACE, XSI
+from repository_file import MOST_DIGITS, NAMESPACE, XSI
 from rule_sentences import MARKUP
 from xml_tree import WHITE
 
 LEAF_RULES = ('BadText', 'BadLength', 'PatternFails', 'NotACode', 'Digits', 'OutOfRange')
 TAG_RULES = ('UnknownElement', 'OutOfOrder', 'TooMany', 'SecondAlternative', 'TextInComplex')
-PASSED_OVER = (f'{XSI} schemaLocation', f'{XSI} noNamespaceSchemaLocation')
-CLASSES = ('universal ', 'application ', '', 'private ')
+PASSED_OVER = ((XSI, 'schemaLocation'), (XSI, 'noNamespaceSchemaLocation'))
+
+# as far as a text may go on to be a number
+NUMBER = re.compile(r'[ \t\r\n]*[+-]?[0-9]*\.?[0-9]*')
+DOCUMENT = re.compile(rb'<(?:[A-Za-z_][\w.-]*:)?Document[\s>]')
 
 
 # ---- the part that breaks the rule
@@ -22,10 +27,7 @@ def named(place, name):
 
 def first_unknown(place):
     """The first attribute that no element has; of several that one type has alone, as Ccy, the others come first."""
-    expanded = place.expanded()
-    spelled = [it for it in place.attributes() if not it.is_declaration()]
-    names = expanded[2] if expanded and len(expanded[2]) == len(spelled) else [it.name for it in spelled]
-    unknown = [it for it, name in zip(spelled, names) if name not in PASSED_OVER]
+    unknown = [it for it, *name in place.named_attributes() if tuple(name) not in PASSED_OVER]
     return next((it for it in unknown if it.name != 'Ccy'), unknown[0] if unknown else None)
 
 
@@ -79,17 +81,26 @@ def meant_tag(entry, place):
     return [f'did you mean <{tag}>?'] if tag and tag != place.tag_name().rpartition(':')[2] else []
 
 
+def unseen(rule, place):
+    """The text, or the first character of an unknown tag, that is not one of visible ASCII."""
+    text = place.token_text()
+    if rule == 'TextInComplex' and len(text) == 1 and not is_visible(text):
+        return [f'here stands {sign(text)}']
+    found = [it for it in place.tag_name().rpartition(':')[2] if not is_visible(it)] if rule == 'UnknownElement' else []
+    return [f'the tag has {sign(found[0])}'] if found else []
+
+
 def tags_expected(types, fault, place):
     entry = open_entry(types, fault)
     if entry is None:
-        return [f'<{types.message.tag}> alone stands in Document', *foreign_tag(types, fault, place)]
+        return [f'<{types.message.tag}> alone stands in Document', *unseen(fault.rule, place), *foreign_tag(types, fault, place)]
     if entry.kind == 'ExternalSchema':
         return [types.described(entry)]
     depth = fault.path.count('/')
     came = place.open[depth - 1].children if len(place.open) >= depth else []
     tags, may_end = may_come(entry, came)
     told = [f'<{tag}>' for tag in tags] + ([f'the end of {last_part(fault.path)}'] if may_end else [])
-    lines = [f'{entry.name}; here may come {", ".join(told) or "nothing"}']
+    lines = [f'{entry.name}; here may come {", ".join(told) or "nothing"}', *unseen(fault.rule, place)]
     if fault.rule == 'UnknownElement':
         return lines + (foreign_tag(types, fault, place) or meant_tag(entry, place))
     return lines + order_expected(fault, entry, came, place.tag_name().rpartition(':')[2])
@@ -126,11 +137,13 @@ def missing_expected(types, fault):
     return told + [f'<{tag}> {text}' for text in bounds_of(element)[:1]] if element else told
 
 
-def root_expected(types, place):
+def root_expected(types, fault, place):
     told = [f'<Document xmlns="{NAMESPACE}{types.message.identifier}">']
     if place.token:
         told.append(f'the root is {place.token_text()[:WIDTH]}')
-    space = (place.expanded() or [''])[0]
+    space, tag = place.expanded() or ('', '')
+    if tag == 'AppHdr' or tag != 'Document' and DOCUMENT.search(place.data, int(fault.where)):
+        return [*told, 'hand in its `Document` alone: headers and envelopes round it are not read']
     other = space[len(NAMESPACE):] if space.startswith(NAMESPACE) else types.message.identifier
     if other != types.message.identifier:
         told.append(f'that is the message {other}, which the repository {"has too" if other in types.identifiers else "does not have"}')
@@ -139,19 +152,35 @@ def root_expected(types, place):
 
 def text_told(rule, text, entry):
     """What the text has that the rule counts."""
+    if rule == 'BadText' and not text.strip(WHITE):
+        return ['there is no text']
+    if rule == 'BadText' and entry.kind in NUMBERS:
+        return number_told(text.rstrip(WHITE))
     if rule == 'BadText' and entry.kind in FORMS:
         told = date_fault(entry.kind, text.strip(WHITE))
         return [told] if told else []
+    if rule == 'PatternFails':
+        return pattern_told(entry.facets['pattern'], text.strip(WHITE) if entry.kind in FORMS else text)
     if rule == 'BadLength':
         return [f'the text has {len(text)} character{"" if len(text) == 1 else "s"}']
     if rule == 'Digits':
-        whole, _, fraction = text.strip(WHITE).lstrip('+-').partition('.')
-        whole, fraction = whole.lstrip('0'), fraction.rstrip('0')
-        count = len(whole + fraction) if whole else len(fraction.lstrip('0'))
-        is_beyond = 'totalDigits' not in entry.facets and max(count, len(fraction)) > MOST_DIGITS
+        count, behind = digits_in(text.strip(WHITE))
+        is_beyond = 'totalDigits' not in entry.facets and max(count, behind) > MOST_DIGITS
         return [*([f'the type has no totalDigits, and of any number {MOST_DIGITS} digits are taken'] if is_beyond else []),
-                f'the number has {count} digit{"" if count == 1 else "s"}, {len(fraction)} behind the point']
+                f'the number has {count} digit{"" if count == 1 else "s"}, {behind} behind the point']
     return []
+
+
+def number_told(text):
+    """How far the text is a number."""
+    far = NUMBER.match(text).end()
+    if far == len(text):
+        return ['there is no digit']
+    return [far_told(text, far) if text[:far].strip(WHITE) else f'no number begins with {sign(text[far])}']
+
+
+def far_told(text, far):
+    return f'the text fits up to its character {far}; then comes {sign(text[far])}'
 
 
 def pattern_told(pattern, text):
@@ -161,9 +190,7 @@ def pattern_told(pattern, text):
         return []
     if far == len(text):
         return ['the text fits as far as it goes, and more has to follow']
-    if far == 0:
-        return [f'no text that fits begins with `{text[0]}`']
-    return [f'the text fits up to its character {far}; then comes `{text[far]}`']
+    return [far_told(text, far) if far else f'no text that fits begins with {sign(text[0])}']
 
 
 def here_stands(attribute):
@@ -177,15 +204,15 @@ def leaf_expected(types, fault, place):
     attribute = attribute_at_fault(fault, place)
     told = [types.described(entry), *here_stands(attribute)]
     is_open = len(place.open) == fault.path.count('/')
-    if fault.rule == 'ElementInSimple' or not (attribute or is_open):
+    if fault.rule == 'ElementInSimple':
+        return told + ([f'did you mean </{place.tag_name()}>?'] if is_open and place.tag_name() == place.open_name() else [])
+    if not (attribute or is_open):
         return told
-    text = attribute.value if attribute else place.text()
+    text = attribute.text() if attribute else place.text()
     if entry.kind != 'Binary':
         told += text_told(fault.rule, text, entry)
-    if fault.rule == 'PatternFails':
-        told += pattern_told(entry.facets['pattern'], text.strip(WHITE) if entry.kind in FORMS else text)
     code = closest(text, types.codes_of(entry)) if fault.rule == 'NotACode' else None
-    return told + [f'did you mean {code}?'] if code else told
+    return told + [f'did you mean {quoted(code)}?'] if code else told
 
 
 def attribute_expected(types, fault, place):
@@ -203,7 +230,7 @@ def expected(types, fault, place):
     if types is None or not place.follows:
         return []
     if fault.rule == 'WrongRoot':
-        return root_expected(types, place)
+        return root_expected(types, fault, place)
     if fault.rule == 'Missing':
         return missing_expected(types, fault)
     if fault.rule in TAG_RULES:
@@ -213,62 +240,3 @@ def expected(types, fault, place):
     if fault.rule == 'UnknownAttribute':
         return attribute_expected(types, fault, place)
     return leaf_expected(types, fault, place) if fault.rule in (*LEAF_RULES, 'ElementInSimple') else []
-
-
-def octets_expected(types, fault, octets):
-    """Lines that say what the message has at a place of DER, before these octets."""
-    if fault.where == '0' and octets.removeprefix(BOM).lstrip()[:1] == b'<':
-        return ['DER; the file may be in XML, which `show` without --der reads']
-    if fault.rule == 'Trailing':
-        return ['the end of the file']
-    if types is None:
-        return []
-    if fault.rule == 'Missing':
-        return missing_expected(types, fault)
-    if fault.rule == 'Truncated' and fault.where == '0':
-        return ['a document; the file is empty']
-    entry = types.at(fault.path)
-    if fault.rule == 'UnexpectedTag' and octets and octets[0] & 31 < 31:
-        return [*tags_of_octets(types, fault.path, entry), *tag_told(types, entry, octets[0])]
-    if fault.rule in ('TooMany', 'TooFew'):
-        return items_expected(types, fault)
-    return [types.described(entry)] if entry else []
-
-
-def items_expected(types, fault):
-    """How many items the list has."""
-    above, _, tag = fault.path.rpartition('/')
-    owner, tag = types.at(above), tag.partition('[')[0]
-    element = next((it for it in owner.elements if it.tag == tag), None) if owner else None
-    if element is None:
-        return []
-    return [f'<{tag}> at most {times(element.most)}' if fault.rule == 'TooMany' else f'<{tag}> at least {times(element.least)}']
-
-
-def is_constructed(types, element):
-    """Whether what stands under the tag of an element holds other values."""
-    entry = types.entries.get(element.reference)
-    return element.most != 1 or entry is not None and (entry.kind in COMPONENTS or bool(entry.currency))
-
-
-def tag_told(types, entry, octet):
-    """The tag that stands there, and why it may not, where the value has it at all."""
-    number, form = octet & 31, 'constructed' if octet & 32 else 'primitive'
-    told = f'here stands [{CLASSES[octet >> 6]}{number}], {form}'
-    if entry is None or octet >> 6 != 2 or number >= len(entry.elements):
-        return [told]
-    element = entry.elements[number]
-    if is_constructed(types, element) != bool(octet & 32):
-        return [told, f'[{number}] {element.tag} is {"primitive" if octet & 32 else "constructed"}']
-    if entry.kind == 'ChoiceComponent':
-        return [told, 'one alternative alone']
-    return [told, f'[{number}] {element.tag} once, before what has a greater number']
-
-
-def tags_of_octets(types, path, entry):
-    """The tags of DER that a value has; of a list, whose path ends in no number, those of an item are not told."""
-    if path.count('/') < 2:
-        return [f'Document: [0] {types.message.tag}' if path != '/' else 'Document: [universal 16]']
-    if entry is None or not entry.elements or not path.endswith(']'):
-        return [types.described(entry)] if entry else []
-    return [f'{entry.name}: {", ".join(f"[{number}] {it.tag}" for number, it in enumerate(entry.elements))}']

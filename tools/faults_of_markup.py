@@ -2,35 +2,44 @@
 import re
 
 from page import BOM, WIDTH, spot_of
-from place import MOST_TAG, TOKEN
+from place import MOST_TAG, NAME, TOKEN, XML
 
 NO_CHARACTER = re.compile('[^\t\n\r\x20-\ud7ff\ue000-\ufffd\U00010000-\U0010ffff]')
-XML = 'http://www.w3.org/XML/1998/namespace'
 XMLNS = 'http://www.w3.org/2000/xmlns/'
 # by what other encodings begin, with a byte order mark or `<` (XML 1.0, appendix F)
 ENCODINGS = ((b'\xff\xfe\0\0', 'UTF-32'), (b'\0\0\xfe\xff', 'UTF-32'), (b'<\0\0\0', 'UTF-32'), (b'\0\0\0<', 'UTF-32'),
              (b'\xff\xfe', 'UTF-16'), (b'\xfe\xff', 'UTF-16'), (b'<\0', 'UTF-16'), (b'\0<', 'UTF-16'))
+# attributes one behind the other, and one whose value has a `<` before its last quote
+ATTRIBUTE = re.compile(rb'\s*([^\s=/<>"\']+)\s*=\s*("[^"<]*"|\'[^\'<]*\')')
+CUT_VALUE = re.compile(rb'\s*([^\s=/<>"\']+)\s*=\s*("[^"<]*|\'[^\'<]*)(?:<|\Z)')
 # what ends a comment, a CDATA section and an instruction
 CLOSERS = {b'<!--': b'-->', b'<![CDATA[': b']]>', b'<?': b'?>'}
 
 
 # ---- the part that breaks the rule
 
-def first_twice(place):
-    """The first attribute whose name came before."""
-    names = set()
+def twice(place):
+    """The first attribute or declaration of a tag whose name came before, behind the one that had it; None: there is none. Names are spelled otherwise where two prefixes are bound to one namespace."""
+    names = {}
+    named = place.named_attributes() if place.follows else []
+    expanded = {it: (space, local) for it, space, local in named if space is not None}
     for it in place.attributes():
-        if it.name in names:
-            return it
-        names.add(it.name)
+        name = expanded.get(it, it.name)
+        if name in names:
+            return names[name], it
+        names[name] = it
     return None
+
+
+def first_twice(place):
+    return (twice(place) or [None])[-1]
 
 
 def bad_declaration(place):
     """The first declaration that binds what may not be bound so (Namespaces in XML 1.0, sections 3 and 5)."""
     for it in place.attributes():
-        prefix = it.name.partition(':')[2]
-        if it.is_declaration() and (prefix == 'xmlns' or (prefix == 'xml') != (it.value == XML) or it.value == XMLNS or prefix and not it.value):
+        prefix, space = it.name.partition(':')[2], it.text()
+        if it.is_declaration() and (prefix == 'xmlns' or (prefix == 'xml') != (space == XML) or space == XMLNS or prefix and not space):
             return it
     return None
 
@@ -57,6 +66,19 @@ def utf8_expected(place, at):
     return ['UTF-8' + (f'; the octet {octet.hex()} is {character} in Windows-1252' if character.isprintable() else '')]
 
 
+def open_value(place, at):
+    """The name of the attribute of a tag whose value goes on over the end of the tag or over another attribute, as where its last quote is missing; None: there is none."""
+    place_at = at + len(NAME.match(place.token).group())
+    found = last = ATTRIBUTE.match(place.data, place_at)
+    while found:
+        last, found = found, ATTRIBUTE.match(place.data, found.end())
+    cut = CUT_VALUE.match(place.data, last.end() if last else place_at)
+    if cut:
+        return cut[1].decode(errors='replace') if b'>' in cut[2] else None
+    is_over = last and last[2][:-1].rstrip().endswith(b'=') and place.data[last.end():last.end() + 1] not in (b' ', b'>', b'/')
+    return last[1].decode(errors='replace') if is_over else None
+
+
 def markup_told(place, at):
     """What XML has where this is no markup."""
     token = place.token
@@ -76,9 +98,20 @@ def markup_told(place, at):
         return ['an end tag as </Name>']
     if not re.match(rb'<[A-Za-z_:\x80-\xff]', token):
         return ['the sign < itself is &lt;'] if token.startswith(b'<') else []
+    name = open_value(place, at)
+    if name:
+        return [f'the quote that ends the value of {name}; in a value < is &lt;']
     if not token.endswith(b'>'):
         return ['the > of this tag before the next <; the sign < itself is &lt;']
     return ['attributes as name="value", each behind a space; in a value < is &lt;']
+
+
+def twice_told(place, first, second):
+    """Which of two attributes is too many, or why two that are spelled otherwise have one name."""
+    if first.name == second.name:
+        return [f'{second.name} once']
+    space, local = next((space, local) for it, space, local in place.named_attributes() if it == second)
+    return [f'one of them: {first.name} and {second.name} are one name, {local} of {space}']
 
 
 def prefix_told(place):
@@ -133,8 +166,8 @@ def markup_expected(fault, place):
         return [f'no U+{ord(found.group()):04X}'] if found else []
     if fault.rule == 'BadPrefix':
         return prefix_told(place)
-    if fault.rule == 'DuplicateAttribute' and first_twice(place):
-        return [f'{first_twice(place).name} once']
+    if fault.rule == 'DuplicateAttribute' and twice(place):
+        return twice_told(place, *twice(place))
     if fault.rule == 'TextOutside' and at == 0 and place.data[:1] == b'0':
         return ['XML; the file may be in DER, which `show --der` reads']
     return end_expected(fault, place) if fault.rule in ('TagMismatch', 'Truncated') else []

@@ -2,17 +2,25 @@
 import re
 from decimal import Decimal
 
+from expected import closest, digits_in
 from faults_of_instances import parts_of
 from faults_of_markup import markup_expected
 from pattern_language import PatternFault, read_pattern
 from place import Place
-from repository_file import COMPONENTS, KINDS, MOST_CHARACTERS, MOST_CODES, MOST_DIGITS, MOST_ELEMENTS, MOST_OBJECTS, NAME, REPOSITORY, texts_of
+from repository_file import COMPONENTS, KINDS, MOST_CHARACTERS, MOST_CODES, MOST_DIGITS, MOST_ELEMENTS, MOST_OBJECTS, NAME, REPOSITORY, XMI, XSI, texts_of
 from rule_sentences import MARKUP
 from word_faults import SCHEMA
 
-NUMBERS = ('minOccurs', 'maxOccurs', 'minLength', 'maxLength', 'length', 'totalDigits', 'fractionDigits',
-           'minInclusive', 'maxInclusive', 'minExclusive', 'maxExclusive')
-NEEDED = ('xmi:id', 'xsi:type', 'name')
+LENGTHS = ('minLength', 'maxLength', 'length')
+DIGITS = ('totalDigits', 'fractionDigits', 'minInclusive', 'maxInclusive', 'minExclusive', 'maxExclusive')
+# the numbers that an entry of a kind is asked for; elements and blocks are asked for the others
+FACETS = {**dict.fromkeys(('Text', 'CodeSet', 'IdentifierSet', 'Binary'), LENGTHS), **dict.fromkeys(('Amount', 'Rate', 'Quantity'), DIGITS)}
+OCCURRENCES = ('minOccurs', 'maxOccurs')
+NO_MAXIMUM = ('-1', '*', 'unbounded')
+BOUND = re.compile(r'[+-]?(?:[0-9]+\.?[0-9]*|\.[0-9]+)')
+MOST_COUNT, MOST_COUNT_DIGITS = 2 ** 32 - 1, 10
+DOCUMENT = 'Document'
+NEEDED = (('xmi:id', XMI, 'id'), ('xsi:type', XSI, 'type'), ('name', '', 'name'))
 # Of a way round, so many steps are told, and of a long text so many characters.
 STEPS = 4
 SHOWN = 80
@@ -24,23 +32,62 @@ ORDERED = [('minLength', 'maxLength', True), ('minLength', 'length', True), ('le
 
 # ---- the file
 
-def local(name):
-    return name.partition(':')[2] or name
+def bound_wanted(text):
+    """What a bound should be; None: it is so."""
+    if not BOUND.fullmatch(text):
+        return 'a number'
+    count, behind = digits_in(text)
+    if count > MOST_DIGITS:
+        return f'a number of at most {MOST_DIGITS} digits'
+    return f'a number of at most {MOST_DIGITS} digits behind the point' if behind > MOST_DIGITS else None
 
 
-def no_number(attribute):
-    """Whether the attribute has to be a number and is none: of digits, or with a point and a sign where it is a bound."""
-    if attribute.name not in NUMBERS or attribute.name == 'maxOccurs' and attribute.value in ('', '-1', '*', 'unbounded'):
-        return False
-    form = r'[+-]?[0-9]*\.?[0-9]*' if attribute.name.endswith('clusive') else '[0-9]{1,10}'
-    return not re.fullmatch(form, attribute.value) or not re.search('[0-9]', attribute.value) or \
-        not attribute.name.endswith('clusive') and int(attribute.value) > 2 ** 32 - 1
+def number_wanted(name, text):
+    """What an attribute should be that has to be a number; None: it is so."""
+    if name in DIGITS[2:]:
+        wanted = bound_wanted(text)
+    elif name == 'maxOccurs' and text in NO_MAXIMUM:
+        wanted = None
+    elif not re.fullmatch('[0-9]+', text):
+        wanted = 'a number, or unbounded' if name == 'maxOccurs' else 'a number'
+    elif len(text) > MOST_COUNT_DIGITS:
+        wanted = f'a number of at most {MOST_COUNT_DIGITS} digits'
+    else:
+        wanted = f'a number that is at most {MOST_COUNT:,}' if int(text) > MOST_COUNT else None
+    return wanted
 
 
-def attribute_of(rule, place):
-    """The attribute that breaks the rule; None: none by itself."""
-    wanted = {'L3': lambda it: local(it.name) == 'id', 'L4': no_number}.get(rule)
-    return next((it for it in place.attributes() if wanted(it)), None) if wanted else None
+def first_no_number(place, named):
+    """The first attribute that the entry, the element or the block is asked for and that is no number, and what it should be."""
+    kind = next((it.text() for it, space, local in named if (space, local) == (XSI, 'type')), '')
+    is_entry = place.tag_name().rpartition(':')[2] == 'topLevelDictionaryEntry'
+    asked = FACETS.get(kind.partition(':')[2] or kind, ()) if is_entry else OCCURRENCES
+    found = ((it, number_wanted(local, it.text())) for it, space, local in named if space == '' and local in asked)
+    return next(((it, wanted) for it, wanted in found if wanted), None)
+
+
+def attribute_fault(rule, place):
+    """The attribute that breaks the rule, and what it should be; None: none by itself."""
+    named = place.named_attributes() if place.follows else []
+    if rule == 'L3':
+        return next(((it, 'another id') for it, space, local in named if (space, local) == (XMI, 'id')), None)
+    return first_no_number(place, named) if rule == 'L4' else None
+
+
+def missing_told(place):
+    """The attributes that an entry lacks, and those of their local names in other namespaces."""
+    if not place.follows:
+        return []
+    lines, named = [], place.named_attributes()
+    for name, wanted, local in NEEDED:
+        if (wanted, local) not in [found[1:] for found in named]:
+            lines.append(f'the attribute {name}')
+            lines += [f'{it.name} is in {space_told(space)}, and not in {space_told(wanted)}' for it, space, other in named if other == local]
+    return lines
+
+
+def space_told(space):
+    return f'the namespace {space}' if space else 'no namespace'
 
 
 def file_fault(data, fault):
@@ -51,12 +98,11 @@ def file_fault(data, fault):
         return parts_of(fault, place), markup_expected(fault, place)
     if fault.rule == 'L2':
         return parts_of(fault, place), [f'Repository in {REPOSITORY}', *([SCHEMA] if place.is_schema() else [])]
-    attribute = attribute_of(fault.rule, place)
-    if attribute:
-        is_id = fault.rule == 'L3'
-        return [(at + attribute.start, at + attribute.end)], ['another id' if is_id else 'a number', f'here stands {attribute.name}="{attribute.value}"']
-    missing = [name for name in NEEDED if local(name) not in [local(it.name) for it in place.attributes()]]
-    return parts_of(fault, place), [f'the attribute {name}' for name in missing] if fault.rule == 'L5' else []
+    found = attribute_fault(fault.rule, place)
+    if found:
+        attribute, wanted = found
+        return [(at + attribute.start, at + attribute.end)], [wanted, f'here stands {attribute.name}="{attribute.value}"']
+    return parts_of(fault, place), missing_told(place) if fault.rule == 'L5' else []
 
 
 # ---- a message
@@ -118,19 +164,55 @@ def owner_expected(rule, entry, entries):
         return [f'an end: {way_round(entry, entries)}']
     if rule == 'M12':
         return facets_expected(entry.facets)
-    if rule == 'M16':
-        lines = [str(it.line) for it in entries.values() if it.name == entry.name]
-        return [f'one type of the message with the name {entry.name}; it stands in the lines {", ".join(lines)}'] if len(lines) > 1 else []
     if rule == 'M14':
         return code_expected(texts_of(entries, next(key for key, it in entries.items() if it is entry)))
+    if rule == 'M15' and entry.kind not in KINDS:
+        meant = closest(entry.kind, KINDS)
+        return [f'another kind than {entry.kind}', *([f'did you mean {meant}?'] if meant else [])]
     if rule == 'M15':
-        return ['no pattern'] if entry.kind in KINDS else [f'another kind than {entry.kind}']
+        return ['no pattern']
     return []
+
+
+def reached(message, entries):
+    """The entries that the message reaches."""
+    left, found = [it.reference for it in message.blocks], {}
+    while left:
+        key = left.pop()
+        entry = entries.get(key)
+        if entry is not None and key not in found:
+            found[key] = entry
+            left += [it.reference for it in entry.elements] + ([entry.currency] if entry.kind == 'Amount' else [])
+    return [it for key, it in entries.items() if key in found]
+
+
+def name_expected(owner, message, entries):
+    """Which other name a type or the message may not have: those of Document, of the message, of types, and that of an amount's number."""
+    types = reached(message, entries)
+    lines = [str(it.line) for it in types if it.name == owner.name]
+    if len(lines) > 1:
+        return [f'one type of the message with the name {owner.name}; it stands in the lines {", ".join(lines)}']
+    if owner.name == DOCUMENT:
+        return [f'another name than {DOCUMENT}, which the root has']
+    for other in [it for it in [*types, message] if it is not owner]:
+        what = 'message' if other is message else 'type'
+        if owner.name == other.name:
+            return [f'another name than {owner.name}, which the {what} in the line {other.line} has']
+        if owner.name == number_name(other):
+            return [f'another name than {owner.name}, which the number of {other.name} in the line {other.line} has']
+        if number_name(owner) == other.name:
+            return [f'another name than {owner.name}, whose number has the name {other.name}, as the {what} in the line {other.line} has']
+    return []
+
+
+def number_name(owner):
+    """The name that the number of an Amount with currency has in a schema; None: there is none."""
+    return f'{owner.name}_SimpleType' if getattr(owner, 'kind', None) == 'Amount' and owner.currency else None
 
 
 def facets_expected(facets):
     """The first facet that is out of bounds, or that another one contradicts."""
-    number = {name: Decimal(facets[name]) for name in NUMBERS if name in facets}
+    number = {name: Decimal(facets[name]) for name in LENGTHS + DIGITS if name in facets}
     if not 1 <= number.get('totalDigits', 1) <= MOST_DIGITS:
         return [f'totalDigits of 1 to {MOST_DIGITS}; here stands {facets["totalDigits"]}']
     if 'totalDigits' not in number and number.get('fractionDigits', 0) > MOST_DIGITS:

@@ -16,7 +16,7 @@ SHOW = ('show and check-all read FILE and REPO anew to say more than the line of
         'of a command of the program it is said on a terminal alone, but for words of no form while the program is not built, and by try. '
         'Where a repository, its codes, a message or an instance is refused, it is said on a terminal too where to ask on. '
         'Colours and the progress of check-all come on a terminal alone, and no colours where NO_COLOR is set. '
-        'FILE of show may be /dev/stdin; of what is no plain file they make a copy in the folder that TMPDIR names, or else in /tmp. '
+        'FILE of show may be `-`, which is standard input; of what is no plain file they make a copy in the folder that TMPDIR names, or else in /tmp. '
         'With more or fewer words than they have import, show and check-all say their usage in one line on standard error, and end with 1; '
         'so do show and check-all of an option that they do not have, or that stands behind REPO. '
         'The status of check-all is the greatest of its files.')

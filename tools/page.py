@@ -67,6 +67,21 @@ def printable(text):
     return ''.join(character if character.isprintable() else ' ' for character in text)
 
 
+def is_visible(character):
+    """Whether it is one of visible ASCII."""
+    return '!' <= character <= '~'
+
+
+def sign(character):
+    """A character by what can be seen of it, and by its number where it is not one of visible ASCII."""
+    if is_visible(character):
+        return f'`{character}`'
+    number = f'U+{ord(character):04X}'
+    if character == ' ':
+        return f'a space, {number}'
+    return f'`{character}`, {number}' if unicodedata.category(character)[0] in 'LNPS' else number
+
+
 def columns_of(character):
     """How many columns of a terminal the character takes."""
     if unicodedata.category(character) in ('Mn', 'Me'):

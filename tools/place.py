@@ -7,9 +7,15 @@ from xml.parsers import expat
 from page import BOM, FAR
 from schema_file import XS
 
+XML = 'http://www.w3.org/XML/1998/namespace'
+
 TOKEN = re.compile(rb'<!--.*?-->|<\?.*?\?>|<!\[CDATA\[.*?\]\]>|<(?:[^<>"\']+|"[^"]*"|\'[^\']*\')*>?|&(?:#?\w+;)?|[\xc0-\xff][\x80-\xbf]{0,3}|.', re.S)
 ATTRIBUTE = re.compile(rb'([^\s=/<>"\']+)\s*=\s*("[^"]*"|\'[^\']*\')')
 NAME = re.compile(rb'</?([^\s/>]*)')
+# what stands in the spelling of a value for another character (XML 1.0, section 3.3.3)
+SPELLED = re.compile(r'&#x([0-9A-Fa-f]+);|&#([0-9]+);|&(lt|gt|amp|quot|apos);|\r\n|[\t\r\n]')
+ENTITIES = {'lt': '<', 'gt': '>', 'amp': '&', 'quot': '"', 'apos': "'"}
+MOST_CHARACTER = 0x10ffff
 # of a tag, in octets
 MOST_TAG = 2 ** 20
 
@@ -30,6 +36,18 @@ class Open(NamedTuple):
     children: list
 
 
+def read_spelled(found):
+    """The character that a reference in a value names, or the space that a line end or tab is."""
+    hexadecimal, decimal, name = found.groups()
+    if name:
+        return ENTITIES[name]
+    if not (hexadecimal or decimal):
+        return ' '
+    digits = (hexadecimal or decimal).lstrip('0')
+    number = int(digits, 16 if hexadecimal else 10) if 0 < len(digits) < 8 else 0
+    return chr(number) if 0 < number <= MOST_CHARACTER else found[0]
+
+
 class Attribute(NamedTuple):
     """An attribute of a tag as it is spelled, with the octets of the tag from which and to which it stands."""
     name: str
@@ -40,6 +58,10 @@ class Attribute(NamedTuple):
     def is_declaration(self):
         return self.name == 'xmlns' or self.name.startswith('xmlns:')
 
+    def text(self):
+        """The value that is spelled."""
+        return SPELLED.sub(read_spelled, self.value)
+
 
 class Place:
     """The elements that are open before a place, the last text, and the token there; `data` goes on behind the place. It `follows` where expat takes all that stands before."""
@@ -48,7 +70,7 @@ class Place:
         self.data = data
         self.open = []
         self.last_tag = None
-        self.bound = {'xml': 1}
+        self.bound = {'xml': [XML]}
         self.pieces = []
         found = TOKEN.match(data, place)
         self.token = found.group() if found else b''
@@ -74,11 +96,11 @@ class Place:
             return False
         return True
 
-    def bind(self, prefix, _space):
-        self.bound[prefix] = self.bound.get(prefix, 0) + 1
+    def bind(self, prefix, space):
+        self.bound.setdefault(prefix, []).append(space)
 
     def unbind(self, prefix):
-        self.bound[prefix] -= 1
+        self.bound[prefix].pop()
 
     def start(self, name, _attributes):
         tag = name.rpartition(' ')[2]
@@ -116,19 +138,19 @@ class Place:
 
     @lru_cache(None)
     def expanded(self):
-        """The namespace and tag of the start tag at the place, and the names of its attributes; None of any other token. No events are asked behind it."""
+        """The namespace and tag of the start tag at the place; None of any other token. No events are asked behind it."""
         started = []
-        self.parser.StartElementHandler = lambda name, attributes: started.append((name, attributes[::2]))
+        self.parser.StartElementHandler = lambda name, _attributes: started.append(name)
         self.parser.EndElementHandler = None
         self.parse(self.token[self.is_tag:])
         if not started:
             return None
-        space, _, tag = started[0][0].rpartition(' ')
-        return space, tag, started[0][1]
+        space, _, tag = started[0].rpartition(' ')
+        return space, tag
 
     def is_schema(self):
         """Whether the tag is that of a schema."""
-        return self.expanded() is not None and self.expanded()[:2] == (XS, 'schema')
+        return self.expanded() == (XS, 'schema')
 
     def token_text(self):
         return self.token.decode(errors='replace')
@@ -149,6 +171,14 @@ class Place:
         start = NAME.match(self.token)
         found = ATTRIBUTE.finditer(self.token, start.end()) if start else []
         return [Attribute(it[1].decode(errors='replace'), it[2][1:-1].decode(errors='replace'), it.start(), it.end()) for it in found]
+
+    def named_attributes(self):
+        """The attributes that are no declarations, each with its namespace, which is None where its prefix is not bound, and its local name. It `follows`."""
+        attributes = self.attributes()
+        spaces = {prefix: found[-1] for prefix, found in self.bound.items() if found}
+        spaces.update((it.name[6:], it.text()) for it in attributes if it.name.startswith('xmlns:'))
+        spelled = [(it, *it.name.rpartition(':')) for it in attributes if not it.is_declaration()]
+        return [(it, spaces.get(prefix) if colon else '', local) for it, prefix, colon, local in spelled]
 
     def prefixes(self):
         """The prefixes of the tag that no declaration binds."""

@@ -66,6 +66,16 @@ def copied(name, file, stack):
     return Source(name, path)
 
 
+def standard_input(stack):
+    """A copy of standard input, whose name is `-`."""
+    try:
+        file = open(0, 'rb', closefd=False)
+    except OSError as error:
+        return Source('-', '/', error.strerror)
+    with file:
+        return copied('-', file, stack)
+
+
 def codes_source(name, stack):
     """The file of external codes; `-` is none, whatever is called so."""
     return Source(name, name) if name == '-' else source(name, stack)

@@ -8,12 +8,14 @@ import os
 from functools import lru_cache
 from typing import NamedTuple, Optional
 
-from expected import Types, closest, read_codes
-from faults_of_instances import expected, octets_expected, parts_of
-from faults_of_repositories import file_fault, message_fault
-from page import WIDTH, Spot, Style, line_spot, marked, octet_lines, printable, rows, spot_of
+from expected import Types, closest
+from external_codes import note_unused, read_codes
+from faults_of_instances import expected, parts_of
+from faults_of_octets import octets_expected
+from faults_of_repositories import file_fault, message_fault, name_expected
+from page import WIDTH, Spot, Style, line_spot, marked, octet_lines, rows, spot_of
 from place import Place, octets_to
-from program import CODES, DONE, INSTANCE, MESSAGE, REPOSITORY, WORDS, Fault, Source, check, codes_source, fault_of, source
+from program import CODES, DONE, INSTANCE, MESSAGE, REPOSITORY, WORDS, Fault, Source, check, codes_source, fault_of, source, standard_input
 from repository_file import IDENTIFIER_FORM, read_repository
 from rule_sentences import SENTENCES
 from word_faults import option_fault, word_faults
@@ -21,7 +23,6 @@ from xml_tree import NotXml
 
 USAGE = 'usage: isorepo show [--der] [--json] REPO CODES MSGID FILE'
 FIRST_MESSAGES = 8
-FIRST_SETS = 8
 
 
 class Told(NamedTuple):
@@ -43,7 +44,7 @@ class Call:
         self.repository = source(words[0], stack)
         self.codes = codes_source(words[1], stack)
         self.message = words[2]
-        self.file = source(words[3], stack)
+        self.file = standard_input(stack) if words[3] == '-' else source(words[3], stack)
         self.is_der = is_der
 
     def answer(self):
@@ -61,18 +62,7 @@ class Call:
         except NotXml:
             return None
         message = next(it for it in messages if it.identifier == self.message)
-        return Types(entries, message, read_codes(self.codes.path), [it.identifier for it in messages])
-
-    def unused_sets(self):
-        """The names in the codes that no code set of the repository has; none where expat does not take the repository."""
-        if self.codes.name == '-':
-            return []
-        try:
-            entries, _ = self.read_repository()
-        except NotXml:
-            return []
-        known = {it.name for it in entries.values() if it.kind == 'CodeSet'}
-        return [name for name in read_codes(self.codes.path) if name not in known]
+        return Types(entries, message, read_codes(self.codes.path), [it.identifier for it in messages], self.is_der)
 
 
 # ---- what is told, by the status of the answer
@@ -80,8 +70,7 @@ class Call:
 def of_instance(call, fault):
     at = int(fault.where)
     if call.is_der:
-        data = octets_to(call.file.path, at)[at:]
-        return Told(call.file, fault, None, octets_expected(call.types(), fault, data), True)
+        return Told(call.file, fault, None, octets_expected(call.types(), fault, octets_to(call.file.path, at)), True)
     data = octets_to(call.file.path, at)
     place = Place(data, at)
     spot = spot_of(data, at, parts_of(fault, place))
@@ -107,6 +96,7 @@ def of_message(call, fault):
         line, wanted = message_fault(fault.rule, owner.line, elements, entry, entries)
         lines = [str(it.line) for it in messages if it.identifier == fault.where]
         wanted += [f'one message of this identifier; they stand in the lines {", ".join(lines)}'] if fault.rule == 'M2' else []
+        wanted += name_expected(owner, next(it for it in messages if it.identifier == call.message), entries) if fault.rule == 'M16' else []
         return Told(call.repository, fault, line_spot(call.repository.path, line), wanted)
     known = [it.identifier for it in messages if IDENTIFIER_FORM.fullmatch(it.identifier)]
     more = f', and {len(known) - FIRST_MESSAGES} more' if len(known) > FIRST_MESSAGES else ''
@@ -174,14 +164,6 @@ def as_json(call, answer, told, more):
     return json.dumps({key: spelled(value) if isinstance(value, str) else value for key, value in found.items()})
 
 
-def note_unused(call):
-    """Names the code sets of CODES that the repository does not have: the program passes them over."""
-    names = [printable(name) for name in call.unused_sets()]
-    more = f', and {len(names) - FIRST_SETS} more' if len(names) > FIRST_SETS else ''
-    if names:
-        NOTES.line(f'{call.codes.name}: the repository has no code set {", ".join(names[:FIRST_SETS])}{more}')
-
-
 def show(call, is_json):
     answer = call.answer()
     if answer.line:
@@ -189,7 +171,7 @@ def show(call, is_json):
     told, more, fault = None, [], fault_of(answer.line)
     try:
         if answer.status in (DONE, INSTANCE):
-            note_unused(call)
+            note_unused(call.repository, call.codes)
         if fault and answer.status in OF_STATUS:
             told = OF_STATUS[answer.status](call, fault)
         else:
