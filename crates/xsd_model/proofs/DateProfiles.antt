@@ -1,17 +1,14 @@
 -- The text of a date or a time is a word of its profile.
-use Rattle.std.proofs.Common.{◌≡◌, ◌≢◌, ◌⊎◌, ℕ, zero, suc, ◌+◌, ◌-◌, ◌*◌, ◌<◌, ◌≤◌, inl, inr, Bool, true, false, List, [], ◌∷◌, ◌++◌, length, get_or, refl, sym, ap, ap₂, subst, ◌∙◌, arith, append-nil, append_assoc, lit≤}
+use Rattle.std.proofs.Common.{◌≡◌, ◌≢◌, ◌⊎◌, ℕ, zero, suc, ◌+◌, ◌-◌, ◌*◌, ◌<◌, ◌≤◌, inl, inr, true, List, [], ◌∷◌, ◌++◌, length, get_or, refl, sym, ap, ap₂, subst, ◌∙◌, arith, append-nil, append_assoc}
 use Rattle.std.specs.Prelude.{codes, replicate}
 use Rattle.std.specs.List.{AllByRecursion}
-use Rattle.std.specs.Str.{chars, IsAscii}
-use Rattle.std.proofs.lemmas.Str.{chars-IsAscii}
-use Rattle.std.proofs.lemmas.Bool.Decides.{nat_tests}
-use Rattle.std.proofs.Common.{nat_lt, ◌&&◌}
+use Rattle.std.specs.Str.{chars}
+use Rattle.std.specs.Char.{digit_value}
 use Rattle.std.specs.Str.Parse.{AllDigits}
 use Rattle.std.proofs.lemmas.List.{get_or-append_right}
 use Rattle.lexical_core.proofs.Numerals.{digit_range}
-use Rattle.pattern_match.specs.Expression.{Plain, Escaped, One, Range, Atom, Character, Escape, Class, Once, Optional, Exactly, Between, Expression, Empty, Piece, Group, Choice}
-use Rattle.pattern_match.specs.Valid.{digits_number, IsExpression, IsBranch, IsAtom, IsOrdinary, AreNumberDigits}
-use Rattle.pattern_match.specs.Spelling.{spelling}
+use Rattle.pattern_match.specs.Expression.{Atom, Character, Escape, Once, Optional, Exactly, Between, Expression, Empty, Piece, Group}
+use Rattle.pattern_match.specs.Valid.{digits_number}
 use Rattle.pattern_match.specs.Language.{Lang, AtomHas, IsOneOf, Repeats}
 use Rattle.pattern_match.specs.Reading.{Matches}
 use Rattle.data_types.specs.Dates.{IsDateText, HasForm, FitsPlace, IsClock, IsFraction, IsZone, IsOffset, two_at}
@@ -19,45 +16,7 @@ use Rattle.data_types.specs.Kinds.{form_of}
 use Rattle.data_types.specs.declared.kind.Kind.{Kind}
 use Rattle.data_types.specs.declared.kind.Kind.TheVariants as kind
 use Rattle.xsd_model.specs.StepsOf.{profile_pattern}
-
--- ---- the trees
-
-abbrev digit : Atom
-digit = Class false (Range (Plain 48) (Plain 57) ∷ [])
-
-abbrev digits : List ℕ → Expression → Expression
-digits n rest = Piece digit (Exactly n) rest
-
-abbrev sign : Atom
-sign = Class false (One (Plain 43) ∷ One (Escaped 45) ∷ [])
-
-abbrev zoned : Expression
-zoned = Choice (Piece (Character 90) Once Empty) (Piece sign Once (digits (codes "2") (Piece (Character 58) Once (digits (codes "2") Empty))))
-
-abbrev zone_tree : Expression
-zone_tree = Group zoned Optional Empty
-
-abbrev to_one : Atom
-to_one = Class false (One (Plain 48) ∷ One (Plain 49) ∷ [])
-
-abbrev to_three : Atom
-to_three = Class false (Range (Plain 48) (Plain 51) ∷ [])
-
-abbrev to_five : Atom
-to_five = Class false (Range (Plain 48) (Plain 53) ∷ [])
-
-abbrev hours : Expression
-hours = Choice (Piece to_one Once (Piece digit Once Empty)) (Piece (Character 50) Once (Piece to_three Once Empty))
-
-abbrev fraction_tree : Expression
-fraction_tree = Piece (Escape 46) Once (Piece digit (Between (codes "1") (codes "9")) Empty)
-
-abbrev time_tree : Expression
-time_tree = Group hours Once (Piece (Character 58) Once (Piece to_five Once (Piece digit Once (Piece (Character 58) Once (Piece to_five Once (Piece digit Once
-    (Group fraction_tree Optional zone_tree)))))))
-
-abbrev day_tree : Expression → Expression
-day_tree rest = digits (codes "4") (Piece (Character 45) Once (digits (codes "2") (Piece (Character 45) Once (digits (codes "2") rest))))
+use Rattle.xsd_model.proofs.ProfileTrees.{digit, digits, sign, zoned, zone_tree, to_one, to_three, to_five, hours, fraction_tree, time_tree, month_tree, day_tree, tree_of, tree_is}
 
 -- ---- words of pieces
 
@@ -79,13 +38,13 @@ one_group inner rest u v i l = (u, v, refl, (1, refl, (u, [], sym (append-nil u)
 
 -- ---- forms by recursion
 
-abbrev Forms : List ℕ → List ℕ → Type 0
+abbrev pub Forms : List ℕ → List ℕ → Type 0
 Forms [] [] = Unit {0}
 Forms [] (c ∷ text) = ⊥
 Forms (p ∷ form) [] = ⊥
 Forms (p ∷ form) (c ∷ text) = FitsPlace p c × Forms form text
 
-forms : (form text : List ℕ) → HasForm form text → Forms form text
+pub forms : (form text : List ℕ) → HasForm form text → Forms form text
 forms [] [] h = tt
 forms [] (c ∷ text) h = (let e = h.same_length in omega (arith, e))
 forms (p ∷ form) [] h = (let e = h.same_length in omega (arith, e))
@@ -96,7 +55,7 @@ is_digit : (c : ℕ) → FitsPlace 100 c → (48 ≤ c) × (c ≤ 57)
 is_digit c (inl d) = digit_range c d.1
 is_digit c (inr n) = absurd (n.0 refl)
 
-is_char : (p c : ℕ) → p ≢ 100 → FitsPlace p c → c ≡ p
+pub is_char : (p c : ℕ) → p ≢ 100 → FitsPlace p c → c ≡ p
 is_char p c other (inl d) = absurd (other d.0)
 is_char p c other (inr n) = n.1
 
@@ -108,20 +67,28 @@ char_word : (p : ℕ) (form : List ℕ) (rest : Expression) (text v : List ℕ) 
 char_word p form rest [] v other f k = absurd f
 char_word p form rest (c ∷ text) v other f k = one_word (Character p) rest c (text ++ v) (is_char p c other f.0) (k text f.1)
 
+digit_fits : (c : ℕ) → FitsPlace 100 c → digit_value c < 10
+digit_fits c (inl d) = d.1
+digit_fits c (inr n) = absurd (n.0 refl)
+
 -- so many digits, and then more
-digits_front : (n : ℕ) (form text : List ℕ) → Forms (replicate n 100 ++ form) text
-    → (u : List ℕ) × (more : List ℕ) × (text ≡ u ++ more) × (length u ≡ n) × AllByRecursion (AtomHas digit) u × Forms form more
+pub digits_front : (n : ℕ) (form text : List ℕ) → Forms (replicate n 100 ++ form) text
+    → (u : List ℕ) × (more : List ℕ) × (text ≡ u ++ more) × (length u ≡ n) × AllDigits 10 u × Forms form more
 digits_front zero form text f = ([], text, refl, refl, tt, f)
 digits_front (suc n) form [] f = absurd f
 digits_front (suc n) form (c ∷ text) f =
     let r = digits_front n form text f.1 in
-    (c ∷ r.0, r.1, ap (λ t. c ∷ t) r.2, ap suc r.3, (digit_has c (is_digit c f.0), r.4), r.5)
+    (c ∷ r.0, r.1, ap (λ t. c ∷ t) r.2, ap suc r.3, (digit_fits c f.0, r.4), r.5)
+
+all_digits : (ds : List ℕ) → AllDigits 10 ds → AllByRecursion (AtomHas digit) ds
+all_digits [] all = tt
+all_digits (c ∷ ds) all = (digit_has c (digit_range c all.0), all_digits ds all.1)
 
 digits_word : (n : ℕ) (ds form : List ℕ) (rest : Expression) (text v : List ℕ) → n ≡ digits_number ds → Forms (replicate n 100 ++ form) text
     → ((more : List ℕ) → Forms form more → Lang rest (more ++ v)) → Lang (Piece digit (Exactly ds) rest) (text ++ v)
 digits_word n ds form rest text v e f k =
     let r = digits_front n form text f in
-    (r.0, r.1 ++ v, ap (λ t. t ++ v) r.2 ∙ append_assoc r.0 r.1 v, (length r.0, r.3 ∙ e, repeats digit r.0 r.4), k r.1 r.5)
+    (r.0, r.1 ++ v, ap (λ t. t ++ v) r.2 ∙ append_assoc r.0 r.1 v, (length r.0, r.3 ∙ e, repeats digit r.0 (all_digits r.0 r.4)), k r.1 r.5)
 
 -- the end of a form
 no_more : (rest : Expression) (more v : List ℕ) → Forms [] more → Lang rest v → Lang rest (more ++ v)
@@ -154,10 +121,6 @@ zone_word zone (inr (inr o)) = subst (Lang zone_tree) (append-nil zone) (one_opt
 
 -- ---- fractions
 
-all_digits : (ds : List ℕ) → AllDigits 10 ds → AllByRecursion (AtomHas digit) ds
-all_digits [] all = tt
-all_digits (c ∷ ds) all = (digit_has c (digit_range c all.0), all_digits ds all.1)
-
 fraction_word : (fraction zone : List ℕ) → IsFraction true fraction → IsZone zone → Lang (Group fraction_tree Optional zone_tree) (fraction ++ zone)
 fraction_word fraction zone (inl none) z =
     subst (λ f. Lang (Group fraction_tree Optional zone_tree) (f ++ zone)) (sym none) (no_option fraction_tree zone_tree zone (zone_word zone z))
@@ -189,7 +152,7 @@ record Clock (text : List ℕ) : Type 0 where
   is_e : (48 ≤ e) × (e ≤ 57)
   is_f : (48 ≤ f) × (f ≤ 57)
 
-nothing_left : (text : List ℕ) → Forms [] text → text ≡ []
+pub nothing_left : (text : List ℕ) → Forms [] text → text ≡ []
 nothing_left [] f = refl
 nothing_left (c ∷ text) f = absurd f
 
@@ -272,119 +235,27 @@ day_word rest text v form f k =
     (λ t g. digits_word 2 (codes "2") form rest t v refl g k))))
 
 -- where a form goes on, its text does
-forms_split : (form more text : List ℕ) → Forms (form ++ more) text → (a : List ℕ) × (b : List ℕ) × (text ≡ a ++ b) × (length a ≡ length form) × Forms form a × Forms more b
+pub forms_split : (form more text : List ℕ) → Forms (form ++ more) text → (a : List ℕ) × (b : List ℕ) × (text ≡ a ++ b) × (length a ≡ length form) × Forms form a × Forms more b
 forms_split [] more text f = ([], text, refl, refl, tt, f)
 forms_split (p ∷ form) more [] f = absurd f
 forms_split (p ∷ form) more (c ∷ text) f =
     let r = forms_split form more text f.1 in
     (c ∷ r.0, r.1, ap (λ t. c ∷ t) r.2, ap suc r.3, (f.0, r.4), r.5)
 
-clock_behind : (a b : List ℕ) → length a ≡ 11 → IsClock (a ++ b) 11 → IsClock b 0
-clock_behind a b len h =
+-- two digits behind a date and its `T`
+two_behind : (a b : List ℕ) (k i : ℕ) → length a ≡ 11 → 11 + k ≡ i → two_at (a ++ b) i ≡ two_at b k
+two_behind a b k i len e =
     let at : (k i : ℕ) → 11 + k ≡ i → get_or (a ++ b) i 0 ≡ get_or b k 0 =
     λ k i e. get_or-append_right a b 11 i 0 len (omega (arith, e)) ∙ ap (λ j. get_or b j 0) (let z : i - 11 ≡ k = omega (arith, e) in z) in
-    let two : (k i : ℕ) → 11 + k ≡ i → two_at (a ++ b) i ≡ two_at b k =
-    λ k i e. ap₂ (λ x y. (x - 48) * 10 + (y - 48)) (at k i e) (at (k + 1) (i + 1) (omega (arith, e))) in
-    (subst (λ x. x < 24) (two 0 11 refl) h.0, subst (λ x. x < 60) (two 3 14 refl) h.1, subst (λ x. x < 60) (two 6 17 refl) h.2)
+    ap₂ (λ x y. (x - 48) * 10 + (y - 48)) (at k i e) (at (k + 1) (i + 1) (omega (arith, e)))
 
--- ---- the trees are those of the texts
+pub clock_behind : (a b : List ℕ) → length a ≡ 11 → IsClock (a ++ b) 11 → IsClock b 0
+clock_behind a b len h =
+    (subst (λ x. x < 24) (two_behind a b 0 11 len refl) h.0, subst (λ x. x < 60) (two_behind a b 3 14 len refl) h.1, subst (λ x. x < 60) (two_behind a b 6 17 len refl) h.2)
 
-digit_atom : IsAtom digit
-digit_atom = (((inl (lit≤ tt, lit≤ tt), refl), (inl (lit≤ tt, lit≤ tt), refl), lit≤ tt), (λ e. refl), tt)
-
-three_atom : IsAtom to_three
-three_atom = (((inl (lit≤ tt, lit≤ tt), refl), (inl (lit≤ tt, lit≤ tt), refl), lit≤ tt), (λ e. refl), tt)
-
-five_atom : IsAtom to_five
-five_atom = (((inl (lit≤ tt, lit≤ tt), refl), (inl (lit≤ tt, lit≤ tt), refl), lit≤ tt), (λ e. refl), tt)
-
-one_atom : IsAtom to_one
-one_atom = ((inl (lit≤ tt, lit≤ tt), refl), (λ e. refl), ((inl (lit≤ tt, lit≤ tt), refl), tt))
-
-sign_atom : IsAtom sign
-sign_atom = ((inl (lit≤ tt, lit≤ tt), refl), (λ e. refl), (refl, tt))
-
-char_valid : (c : ℕ) (rest : Expression) → IsOrdinary c → IsBranch rest → IsExpression rest → IsExpression (Piece (Character c) Once rest)
-char_valid c rest is branch valid = (is, tt, branch, valid)
-
-atom_valid : (a : Atom) (rest : Expression) → IsAtom a → IsBranch rest → IsExpression rest → IsExpression (Piece a Once rest)
-atom_valid a rest is branch valid = (is, tt, branch, valid)
-
-digits_valid : (ds : List ℕ) (rest : Expression) → AreNumberDigits ds → IsBranch rest → IsExpression rest → IsExpression (digits ds rest)
-digits_valid ds rest is branch valid = (digit_atom, is, branch, valid)
-
-one_digit : (c : ℕ) → (48 ≤ c) × (c ≤ 57) → AreNumberDigits (c ∷ [])
-one_digit c is = record { each = (is, tt); least = lit≤ tt; most = lit≤ tt }
-
-two : AreNumberDigits (codes "2")
-two = one_digit 50 (lit≤ tt, lit≤ tt)
-
-four : AreNumberDigits (codes "4")
-four = one_digit 52 (lit≤ tt, lit≤ tt)
-
-hyphen_is : IsOrdinary 45
-hyphen_is = (inl (lit≤ tt, lit≤ tt), refl)
-
-colon_is : IsOrdinary 58
-colon_is = (inl (lit≤ tt, lit≤ tt), refl)
-
-zone_valid : IsExpression zone_tree
-zone_valid = (
-  (
-    tt,
-    char_valid 90 Empty (inl (lit≤ tt, lit≤ tt), refl) tt tt,
-    atom_valid sign (digits (codes "2") (Piece (Character 58) Once (digits (codes "2") Empty))) sign_atom tt
-        (digits_valid (codes "2") (Piece (Character 58) Once (digits (codes "2") Empty)) two tt (char_valid 58 (digits (codes "2") Empty) colon_is tt (digits_valid (codes "2") Empty two tt tt))),
-  ),
-  tt,
-  tt,
-  tt,
-)
-
-fraction_valid : IsExpression fraction_tree
-fraction_valid = (refl, tt, tt, (digit_atom, (one_digit 49 (lit≤ tt, lit≤ tt), one_digit 57 (lit≤ tt, lit≤ tt), lit≤ tt), tt, tt))
-
-hours_valid : IsExpression hours
-hours_valid = (
-  tt,
-  atom_valid to_one (Piece digit Once Empty) one_atom tt (atom_valid digit Empty digit_atom tt tt),
-  char_valid 50 (Piece to_three Once Empty) (inl (lit≤ tt, lit≤ tt), refl) tt (atom_valid to_three Empty three_atom tt tt),
-)
-
-sixty_valid : (rest : Expression) → IsBranch rest → IsExpression rest → IsExpression (Piece (Character 58) Once (Piece to_five Once (Piece digit Once rest)))
-sixty_valid rest branch valid =
-    char_valid 58 (Piece to_five Once (Piece digit Once rest)) colon_is tt (atom_valid to_five (Piece digit Once rest) five_atom tt (atom_valid digit rest digit_atom branch valid))
-
-time_valid : IsExpression time_tree
-time_valid = (
-  hours_valid,
-  tt,
-  tt,
-  sixty_valid (Piece (Character 58) Once (Piece to_five Once (Piece digit Once (Group fraction_tree Optional zone_tree)))) tt
-      (sixty_valid (Group fraction_tree Optional zone_tree) tt (fraction_valid, tt, tt, zone_valid)),
-)
-
-month_valid : (rest : Expression) → IsBranch rest → IsExpression rest → IsExpression (Piece (Character 45) Once (digits (codes "2") rest))
-month_valid rest branch valid = char_valid 45 (digits (codes "2") rest) hyphen_is tt (digits_valid (codes "2") rest two branch valid)
-
-day_valid : (rest : Expression) → IsBranch rest → IsExpression rest → IsExpression (day_tree rest)
-day_valid rest branch valid =
-    digits_valid (codes "4") (Piece (Character 45) Once (digits (codes "2") (Piece (Character 45) Once (digits (codes "2") rest)))) four tt
-    (month_valid (Piece (Character 45) Once (digits (codes "2") rest)) tt (month_valid rest branch valid))
-
--- a list of ASCII, by a test
-is_low : List ℕ → Bool
-is_low [] = true
-is_low (c ∷ cs) = nat_lt c 128 && is_low cs
-
-low_ascii : (cs : List ℕ) → is_low cs ≡ true → IsAscii cs
-unfolding is_low
-low_ascii [] e i = lit≤ tt
-low_ascii (c ∷ cs) e zero = grind (arith, nat_tests, e)
-low_ascii (c ∷ cs) e (suc i) = low_ascii cs (grind (arith, nat_tests, e)) i
-
-matches_tree : (bytes text : List ℕ) (tree : Expression) → is_low bytes ≡ true → spelling tree ≡ bytes → IsExpression tree → Lang tree text → Matches (chars bytes) text
-matches_tree bytes text tree low e valid l = (tree, record { valid = valid; spelled = e ∙ sym (chars-IsAscii bytes (low_ascii bytes low)) }, l)
+pub behind_clock : (a b : List ℕ) → length a ≡ 11 → IsClock b 0 → IsClock (a ++ b) 11
+behind_clock a b len h =
+    (subst (λ x. x < 24) (sym (two_behind a b 0 11 len refl)) h.0, subst (λ x. x < 60) (sym (two_behind a b 3 14 len refl)) h.1, subst (λ x. x < 60) (sym (two_behind a b 6 17 len refl)) h.2)
 
 date_matches : (fixed zone : List ℕ) → HasForm (form_of kind.Date) fixed → IsZone zone → Lang (day_tree zone_tree) (fixed ++ zone)
 date_matches fixed zone form z =
@@ -419,51 +290,43 @@ zone_end : (zone : List ℕ) → IsZone zone → (more : List ℕ) → Forms [] 
 zone_end zone z more f = no_more zone_tree more zone f (zone_word zone z)
 
 -- of a kind without seconds the zone stands behind the fixed part
-no_seconds : (text fixed fraction zone : List ℕ) → text ≡ fixed ++ (fraction ++ zone) → fraction ≡ [] → text ≡ fixed ++ zone
+pub no_seconds : (text fixed fraction zone : List ℕ) → text ≡ fixed ++ (fraction ++ zone) → fraction ≡ [] → text ≡ fixed ++ zone
 no_seconds text fixed fraction zone e none = e ∙ ap (λ f. fixed ++ (f ++ zone)) none
 
-pub in_profile : (k : Kind) (text : List ℕ) → IsDateText k text → Matches (chars (profile_pattern k)) text
-unfolding is_low
-in_profile kind.Date text (fixed, fraction, zone, e, form, parts, f, z) =
-    matches_tree (profile_pattern kind.Date) text (day_tree zone_tree) refl refl (day_valid zone_tree tt zone_valid)
-    (subst (Lang (day_tree zone_tree)) (sym (no_seconds text fixed fraction zone e f)) (date_matches fixed zone form z))
-in_profile kind.DateTime text (fixed, fraction, zone, e, form, parts, f, z) =
-    matches_tree (profile_pattern kind.DateTime) text (day_tree (Piece (Character 84) Once time_tree)) refl refl
-    (day_valid (Piece (Character 84) Once time_tree) tt (char_valid 84 time_tree (inl (lit≤ tt, lit≤ tt), refl) tt time_valid))
-    (subst (Lang (day_tree (Piece (Character 84) Once time_tree))) (sym e) (date_time_matches fixed (fraction ++ zone) form parts.1 (fraction_word fraction zone f z)))
-in_profile kind.Time text (fixed, fraction, zone, e, form, parts, f, z) =
-    matches_tree (profile_pattern kind.Time) text time_tree refl refl time_valid
-    (subst (Lang time_tree) (sym e) (clock_word fixed (fraction ++ zone) (forms (codes "dd:dd:dd") fixed form) parts (fraction_word fraction zone f z)))
-in_profile kind.Year text (fixed, fraction, zone, e, form, parts, f, z) =
-    matches_tree (profile_pattern kind.Year) text (digits (codes "4") zone_tree) refl refl (digits_valid (codes "4") zone_tree four tt zone_valid)
-    (subst (Lang (digits (codes "4") zone_tree)) (sym (no_seconds text fixed fraction zone e f)) (year_matches zone_tree [] fixed zone (forms (codes "dddd") fixed form) (zone_end zone z)))
-in_profile kind.YearMonth text (fixed, fraction, zone, e, form, parts, f, z) =
-    let month = Piece (Character 45) Once (digits (codes "2") zone_tree) in
-    matches_tree (profile_pattern kind.YearMonth) text (digits (codes "4") month) refl refl (digits_valid (codes "4") month four tt (month_valid zone_tree tt zone_valid))
-    (subst (Lang (digits (codes "4") month)) (sym (no_seconds text fixed fraction zone e f))
-    (year_matches month (codes "-dd") fixed zone (forms (codes "dddd-dd") fixed form) (λ t g. month_word zone_tree [] t zone g (zone_end zone z))))
-in_profile kind.MonthDay text (fixed, fraction, zone, e, form, parts, f, z) =
-    let day = Piece (Character 45) Once (digits (codes "2") zone_tree) in
-    let month = Piece (Character 45) Once (digits (codes "2") day) in
-    matches_tree (profile_pattern kind.MonthDay) text (Piece (Character 45) Once month) refl refl
-    (char_valid 45 month hyphen_is tt (month_valid day tt (month_valid zone_tree tt zone_valid)))
-    (subst (Lang (Piece (Character 45) Once month)) (sym (no_seconds text fixed fraction zone e f))
+in_tree : (k : Kind) (text : List ℕ) → IsDateText k text → Lang (tree_of k) text
+in_tree kind.Date text (fixed, fraction, zone, e, form, parts, f, z) =
+    subst (Lang (day_tree zone_tree)) (sym (no_seconds text fixed fraction zone e f)) (date_matches fixed zone form z)
+in_tree kind.DateTime text (fixed, fraction, zone, e, form, parts, f, z) =
+    subst (Lang (day_tree (Piece (Character 84) Once time_tree))) (sym e) (date_time_matches fixed (fraction ++ zone) form parts.1 (fraction_word fraction zone f z))
+in_tree kind.Time text (fixed, fraction, zone, e, form, parts, f, z) =
+    subst (Lang time_tree) (sym e) (clock_word fixed (fraction ++ zone) (forms (codes "dd:dd:dd") fixed form) parts (fraction_word fraction zone f z))
+in_tree kind.Year text (fixed, fraction, zone, e, form, parts, f, z) =
+    subst (Lang (digits (codes "4") zone_tree)) (sym (no_seconds text fixed fraction zone e f)) (year_matches zone_tree [] fixed zone (forms (codes "dddd") fixed form) (zone_end zone z))
+in_tree kind.YearMonth text (fixed, fraction, zone, e, form, parts, f, z) =
+    let month = month_tree zone_tree in
+    subst (Lang (digits (codes "4") month)) (sym (no_seconds text fixed fraction zone e f))
+    (year_matches month (codes "-dd") fixed zone (forms (codes "dddd-dd") fixed form) (λ t g. month_word zone_tree [] t zone g (zone_end zone z)))
+in_tree kind.MonthDay text (fixed, fraction, zone, e, form, parts, f, z) =
+    let day = month_tree zone_tree in
+    let month = month_tree day in
+    subst (Lang (Piece (Character 45) Once month)) (sym (no_seconds text fixed fraction zone e f))
     (hyphen_word month (codes "-dd-dd") fixed zone (forms (codes "--dd-dd") fixed form)
-    (λ t g. month_word day (codes "-dd") t zone g (λ t g. month_word zone_tree [] t zone g (zone_end zone z)))))
-in_profile kind.Month text (fixed, fraction, zone, e, form, parts, f, z) =
-    let month = Piece (Character 45) Once (digits (codes "2") zone_tree) in
-    matches_tree (profile_pattern kind.Month) text (Piece (Character 45) Once month) refl refl (char_valid 45 month hyphen_is tt (month_valid zone_tree tt zone_valid))
-    (subst (Lang (Piece (Character 45) Once month)) (sym (no_seconds text fixed fraction zone e f))
-    (hyphen_word month (codes "-dd") fixed zone (forms (codes "--dd") fixed form) (λ t g. month_word zone_tree [] t zone g (zone_end zone z))))
-in_profile kind.Day text (fixed, fraction, zone, e, form, parts, f, z) =
-    let day = Piece (Character 45) Once (digits (codes "2") zone_tree) in
+    (λ t g. month_word day (codes "-dd") t zone g (λ t g. month_word zone_tree [] t zone g (zone_end zone z))))
+in_tree kind.Month text (fixed, fraction, zone, e, form, parts, f, z) =
+    let month = month_tree zone_tree in
+    subst (Lang (Piece (Character 45) Once month)) (sym (no_seconds text fixed fraction zone e f))
+    (hyphen_word month (codes "-dd") fixed zone (forms (codes "--dd") fixed form) (λ t g. month_word zone_tree [] t zone g (zone_end zone z)))
+in_tree kind.Day text (fixed, fraction, zone, e, form, parts, f, z) =
+    let day = month_tree zone_tree in
     let second = Piece (Character 45) Once day in
-    matches_tree (profile_pattern kind.Day) text (Piece (Character 45) Once second) refl refl (char_valid 45 second hyphen_is tt (char_valid 45 day hyphen_is tt (month_valid zone_tree tt zone_valid)))
-    (subst (Lang (Piece (Character 45) Once second)) (sym (no_seconds text fixed fraction zone e f))
+    subst (Lang (Piece (Character 45) Once second)) (sym (no_seconds text fixed fraction zone e f))
     (hyphen_word second (codes "--dd") fixed zone (forms (codes "---dd") fixed form)
-    (λ t g. hyphen_word day (codes "-dd") t zone g (λ t g. month_word zone_tree [] t zone g (zone_end zone z)))))
-in_profile kind.Text text (fixed, fraction, zone, e, form, parts, f, z) = absurd parts
-in_profile kind.Decimal text (fixed, fraction, zone, e, form, parts, f, z) = absurd parts
-in_profile kind.Boolean text (fixed, fraction, zone, e, form, parts, f, z) = absurd parts
-in_profile kind.Binary text (fixed, fraction, zone, e, form, parts, f, z) = absurd parts
-in_profile kind.Envelope text (fixed, fraction, zone, e, form, parts, f, z) = absurd parts
+    (λ t g. hyphen_word day (codes "-dd") t zone g (λ t g. month_word zone_tree [] t zone g (zone_end zone z))))
+in_tree kind.Text text (fixed, fraction, zone, e, form, parts, f, z) = absurd parts
+in_tree kind.Decimal text (fixed, fraction, zone, e, form, parts, f, z) = absurd parts
+in_tree kind.Boolean text (fixed, fraction, zone, e, form, parts, f, z) = absurd parts
+in_tree kind.Binary text (fixed, fraction, zone, e, form, parts, f, z) = absurd parts
+in_tree kind.Envelope text (fixed, fraction, zone, e, form, parts, f, z) = absurd parts
+
+pub in_profile : (k : Kind) (text : List ℕ) → IsDateText k text → Matches (chars (profile_pattern k)) text
+in_profile k text h = (tree_of k, tree_is k, in_tree k text h)

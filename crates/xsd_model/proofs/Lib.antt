@@ -1,6 +1,13 @@
 pub mod Decided
+pub mod PatternAgrees
+pub mod DatesAgree
 pub mod SimpleAgrees
+pub mod ProfileTrees
 pub mod DateProfiles
+pub mod DateNumerals
+pub mod ProfileInSpace
+pub mod ProfileWords
+pub mod SpaceInProfile
 pub mod Sequences
 pub mod Named
 pub mod Admitted

@@ -1,15 +1,17 @@
 -- Worked schemas.
-use Rattle.std.proofs.Common.{◌≡◌, false, [], ◌∷◌, Some, None, pos, refl}
+use Rattle.std.proofs.Common.{◌≡◌, inl, inr, false, [], ◌∷◌, Some, None, pos, refl}
 use Rattle.std.proofs.Common.{ℕ, ◌<◌, zero, suc, arith, lit≤}
 use Rattle.std.specs.Prelude.{codes, flat_map}
 use Rattle.std.specs.Fmt.{digits}
 use Rattle.std.specs.Str.{bytes_eq}
+use Rattle.std.specs.Str.Parse.{AllDigits}
 use Rattle.std.proofs.lemmas.Map.Keys.{IsDistinct-cons}
 use Rattle.data_types.specs.declared.kind.Kind.TheVariants as kind
 use Rattle.facets.specs.declared.simple.Simple.{Simple}
 use Rattle.reference_check.specs.Forms as form
 use Rattle.message_model.specs.Tables.{types_of}
 use Rattle.message_model.specs.Tables.{Tables}
+use Rattle.xsd_model.specs.DateSpaces.{IsDateSpace, IsTwoDigits, IsYearNumeral, IsDayNumeral}
 use Rattle.xsd_model.specs.SchemaOf.{HasSoundNames, HasSoundFacets}
 use Rattle.xsd_model.specs.SchemaOf.{schema_of, types_by}
 use Rattle.xsd_model.specs.SchemaText.{schema_text, type_text}
@@ -60,3 +62,69 @@ note_sound = record {
     facets (suc zero) lt = tt
     facets (suc (suc zero)) lt = record { no_envelope = λ e. absurd cc; total = λ e. lit≤ tt; codes = tt; pattern = tt }
     facets (suc (suc (suc k))) lt = absurd (omega (arith, lt))
+
+-- ---- the lexical spaces of dates have more than the profile, and no more than the standard
+
+far_date : IsDateSpace kind.Date (codes "-10000-02-29+14:00")
+far_date = record {
+  portion = codes "-10000-02-29";
+  zone = codes "+14:00";
+  text_is = refl;
+  is_portion = record {
+    minus = codes "-";
+    year = codes "10000";
+    month = codes "02";
+    day = codes "29";
+    text_is = refl;
+    is_minus = inr refl;
+    is_year = record { digits = digits_are; least = lit≤ tt; no_zero = λ more e. absurd (omega (arith, e)); some = lit≤ tt };
+    is_month = record { two = two_zero_two; least = lit≤ tt; most = lit≤ tt };
+    is_day = record { two = record { digits = (lit≤ tt, (lit≤ tt, tt)); two = refl }; least = lit≤ tt; most = lit≤ tt };
+  };
+  is_zone = inr (inr (record {
+    sign = 43;
+    hour = codes "14";
+    minute = codes "00";
+    text_is = refl;
+    is_sign = inl refl;
+    is_hour = record { digits = (lit≤ tt, (lit≤ tt, tt)); two = refl };
+    is_minute = record { digits = (lit≤ tt, (lit≤ tt, tt)); two = refl };
+    most = inr (refl, refl);
+  }));
+}
+  where
+    digits_are : AllDigits 10 (codes "10000")
+    digits_are = (lit≤ tt, (lit≤ tt, (lit≤ tt, (lit≤ tt, (lit≤ tt, tt)))))
+
+    two_zero_two : IsTwoDigits (codes "02")
+    two_zero_two = record { digits = (lit≤ tt, (lit≤ tt, tt)); two = refl }
+
+end_of_day : IsDateSpace kind.Time (codes "24:00:00.0000000000")
+end_of_day = record {
+  portion = codes "24:00:00.0000000000";
+  zone = [];
+  text_is = refl;
+  is_portion = record {
+    hour = codes "24";
+    minute = codes "00";
+    second = codes "00";
+    digits = codes "0000000000";
+    fraction = codes ".0000000000";
+    text_is = refl;
+    is_hour = record { digits = (lit≤ tt, (lit≤ tt, tt)); two = refl };
+    is_minute = record { digits = (lit≤ tt, (lit≤ tt, tt)); two = refl };
+    is_second = record { digits = (lit≤ tt, (lit≤ tt, tt)); two = refl };
+    is_fraction = ((lit≤ tt, (lit≤ tt, (lit≤ tt, (lit≤ tt, (lit≤ tt, (lit≤ tt, (lit≤ tt, (lit≤ tt, (lit≤ tt, (lit≤ tt, tt)))))))))), inr (lit≤ tt, refl));
+    in_day = inr (record { hours = refl; minutes = refl; seconds = refl; zeros = refl });
+  };
+  is_zone = inl refl;
+}
+
+no_year_zero : IsYearNumeral (codes "0000") → ⊥
+no_year_zero y = let some = y.some in omega (arith, some)
+
+no_zero_in_front : IsYearNumeral (codes "02026") → ⊥
+no_zero_in_front y = y.no_zero (lit≤ tt) refl
+
+no_day_30 : IsDayNumeral 2024 2 (codes "30") → ⊥
+no_day_30 d = let most = d.most in omega (arith, most)
