@@ -14,6 +14,7 @@ use Rattle.markup.specs.ScanRuns.{At, position, ended_of}
 use Rattle.markup.specs.Tokenizers.{after_other, behind_token, is_between, after_whole_tokens, IsTokenOpen, open_at, FinishesBy}
 use Rattle.markup.specs.Inputs.{ReadsTokens, with_pending}
 use Rattle.markup.specs.Reading.{Keeps}
+use Rattle.markup.specs.inner.AsideTexts.{after_token}
 use Rattle.markup.specs.declared.context.Context.{Context}
 use Rattle.markup.specs.declared.reader.Reader.{Reader}
 use Rattle.markup.specs.declared.scan.Position.{Position}
@@ -41,6 +42,12 @@ pub record IsNextBefore (limit : ℕ) (Then : List ℕ → Type 0) (before : Lis
   pub clean : rule_of before t ≡ None
   pub stays : (p : Position) → behind_token p (ended_of t) ≡ after_other p
 
+-- a token that stands there so, whatever it opens or closes
+pub record IsPlaced (limit : ℕ) (Then : List ℕ → Type 0) (before : List Token) (t : Token) : Type 0 where
+  pub is : (after : List ℕ) → Then after → stands before t after ≡ true
+  pub short : is_short limit t ≡ true
+  pub clean : rule_of before t ≡ None
+
 -- where no token is open
 module _ {limit : ℕ} (Follows : List ℕ → Type 0) (some : List ℕ) (follows : Follows some) (r : Reader) (bytes : List ℕ) (ts : List Token) (told : List Placed) (h : Keeps limit Follows r bytes ts told) (between : is_between r.tokenizer.scan ≡ true) (starts : (r.tokenizer.place == r.tokenizer.start) ≡ true) where
   abbrev z : Tokenizer
@@ -61,15 +68,15 @@ module _ {limit : ℕ} (Follows : List ℕ → Type 0) (some : List ℕ) (follow
     by (Begin p) b = ap (λ v. events [] 0 (with_pending (if v then Nothing else Open) ts)) starts
     by _ b = absurd (both_ways false refl b)
 
-  module _ (Then : List ℕ → Type 0) (some_then : List ℕ) (may : Then some_then) (t : Token) (leads : (more : List ℕ) → Then more → Follows (token_bytes t ++ more)) (n : ℕ) (c : Context) (next : IsNextBefore limit Then (reverse ts) t) (size : n ≡ length (token_bytes t)) (context : IsContext c (t ∷ reverse ts)) where
+  module _ (Then : List ℕ → Type 0) (some_then : List ℕ) (may : Then some_then) (t : Token) (leads : (more : List ℕ) → Then more → Follows (token_bytes t ++ more)) (n : ℕ) (c : Context) (next : IsPlaced limit Then (reverse ts) t) (size : n ≡ length (token_bytes t)) (context : IsContext c (t ∷ reverse ts)) where
     abbrev after : Tokenizer
-    after = after_whole_tokens z n
+    after = after_token z (ended_of t) n
 
     place_now : z.place + n ≡ length (bytes ++ token_bytes t)
     place_now = ap (λ v. v + n) h.place ∙ (ap (λ v. length bytes + v) size ∙ sym (length-append bytes (token_bytes t)))
 
-    position_is : z.position ≡ position (t ∷ reverse ts)
-    position_is = sym fresh.position_stays ∙ (ap after_other h.reads.opens.position_is ∙ (sym (next.stays (position (reverse ts))) ∙ sym (position_behind (reverse ts) t some_then (next.is some_then may))))
+    position_is : behind_token z.position (ended_of t) ≡ position (t ∷ reverse ts)
+    position_is = ap (λ p. behind_token p (ended_of t)) h.reads.opens.position_is ∙ sym (position_behind (reverse ts) t some_then (next.is some_then may))
 
     opens : IsTokenOpen limit after (t ∷ reverse ts) []
     opens = record {
@@ -78,7 +85,7 @@ module _ {limit : ℕ} (Follows : List ℕ → Type 0) (some : List ℕ) (follow
       bytes_are = refl;
       utf8_is = fresh.utf8_none;
       front = none_front;
-      scan_is = ap (λ p. At (Begin p) no_draft) (sym position_is) ∙ (ap (λ s. At s no_draft) fresh.scan_here ∙ ap (λ d. At z.scan d) fresh.draft_none);
+      scan_is = ap (λ p. At (Begin p) no_draft) (sym position_is) ∙ ap (λ d. At (Begin (behind_token z.position (ended_of t))) d) fresh.draft_none;
       position_is = position_is;
       place_is = sym (add-zero (z.place + n));
       limit_is = h.reads.opens.limit_is;
@@ -103,8 +110,8 @@ module _ {limit : ℕ} (Follows : List ℕ → Type 0) (some : List ℕ) (follow
         ∙ (sym (events_snoc ts t)
         ∙ ap (events [] 0) (sym (none_pending f (ts ++ t ∷ []) (not_return after (t ∷ reverse ts) [] f opens q no_return_none)))))
 
-    pub keeps_next : Keeps limit Then (record { tokenizer = after; context = c; failed = r.failed }) (bytes ++ token_bytes t) (ts ++ t ∷ []) (told ++ placed_at (length bytes) (items_of (reverse ts) t))
-    keeps_next = record {
+    pub keeps_placed : Keeps limit Then (record { tokenizer = after; context = c; failed = r.failed }) (bytes ++ token_bytes t) (ts ++ t ∷ []) (told ++ placed_at (length bytes) (items_of (reverse ts) t))
+    keeps_placed = record {
       reads = reads;
       clean = clean_snoc ts t h.clean next.clean;
       place = place_now;
@@ -112,3 +119,14 @@ module _ {limit : ℕ} (Follows : List ℕ → Type 0) (some : List ℕ) (follow
       told_are = told_now;
       sound = h.sound;
     }
+
+  module _ (Then : List ℕ → Type 0) (some_then : List ℕ) (may : Then some_then) (t : Token) (leads : (more : List ℕ) → Then more → Follows (token_bytes t ++ more)) (n : ℕ) (c : Context) (next : IsNextBefore limit Then (reverse ts) t) (size : n ≡ length (token_bytes t)) (context : IsContext c (t ∷ reverse ts)) where
+    abbrev at_position : Position → Scan → Tokenizer
+    at_position p s = record { alloc = z.alloc; limit = z.limit; utf8 = z.utf8; position = p; scan = s; draft = z.draft; start = z.place + n; place = z.place + n }
+
+    stays_there : after_token z (ended_of t) n ≡ after_whole_tokens z n
+    stays_there = ap (λ p. at_position p (Begin p)) (next.stays z.position ∙ fresh.position_stays) ∙ ap (λ s. at_position z.position s) fresh.scan_here
+
+    pub keeps_next : Keeps limit Then (record { tokenizer = after_whole_tokens z n; context = c; failed = r.failed }) (bytes ++ token_bytes t) (ts ++ t ∷ []) (told ++ placed_at (length bytes) (items_of (reverse ts) t))
+    keeps_next = subst (λ z. Keeps limit Then (record { tokenizer = z; context = c; failed = r.failed }) (bytes ++ token_bytes t) (ts ++ t ∷ []) (told ++ placed_at (length bytes) (items_of (reverse ts) t))) stays_there
+        (keeps_placed Then some_then may t leads n c (record { is = next.is; short = next.short; clean = next.clean }) size context)

@@ -80,3 +80,5 @@ pub mod OneMarking
 pub mod Stays
 pub mod PlainCharacters
 pub mod TokensBehind
+pub mod AsideTexts
+pub mod WholeAsides

@@ -21,7 +21,7 @@ use Rattle.markup.proofs.TagSound.{cons_same, spaced_more, spaced_none}
 use Rattle.markup.proofs.Residuals.{Spaced, CommentRest, InstructionRest, TargetRest, spells, WordRest, is_value_of, FieldValueRest, FieldQuoted, FieldEqualled, FieldNamed, Rest, Then}
 
 -- a comment's text with one more character before it
-comment_more : (c : ℕ) (s : List ℕ) → is_xml_char c ≡ true → (c == 45) ≡ false → is_comment s ≡ true → is_comment (c ∷ s) ≡ true
+pub comment_more : (c : ℕ) (s : List ℕ) → is_xml_char c ≡ true → (c == 45) ≡ false → is_comment s ≡ true → is_comment (c ∷ s) ≡ true
 comment_more c [] h k a = and_from _ _ h (not_from_false _ k)
 comment_more c (d ∷ s) h k a = and_from _ _ (and_from _ _ h (not_from_false _ (and_left _ _ k))) a
 

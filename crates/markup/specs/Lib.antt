@@ -28,6 +28,7 @@ pub mod PlainStarts
 pub mod TagAttributes
 pub mod Reading
 pub mod References
+pub mod Asides
 pub mod Literals
 pub mod Standing
 pub mod inner

@@ -8,3 +8,4 @@ pub mod WholeStarts
 pub mod StartTags
 pub mod Numbers
 pub mod ClosedBrackets
+pub mod AsideTexts

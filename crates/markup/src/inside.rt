@@ -25,7 +25,7 @@ pub(crate) fn value_length(quote: char, piece: &[u8]) -> usize
 
 /// How many bytes at the front of the piece do not begin the end of a comment.
 #[inline]
-fn comment_length(piece: &[u8]) -> usize
+pub(crate) fn comment_length(piece: &[u8]) -> usize
     ensures within { result ≤ length piece.now }
     ensures count { result ≡ prefix_len (is_passed 45) piece.now }
 {

@@ -2,15 +2,16 @@
 //! in UTF-8, without document types.
 //!
 //! A `Reader` takes the bytes in order. `take` takes one, and appends the events that it shows; `finish` says that no
-//! more come. Either refuses the first fault, with its rule and the place of its token. Seven calls take many bytes at
+//! more come. Either refuses the first fault, with its rule and the place of its token. Eight calls take many bytes at
 //! once, with the meaning of one after the other, and leave the rest to `take`: `take_characters` a run of characters
 //! inside an element (`Run`), `take_blanks` one of white space alone, `take_reference` a whole reference
 //! (`CharacterReference`), `take_line_end` a CR LF, `take_tag` a whole tag without attributes (`PlainTag`) with the
 //! prefix of the innermost element or, as that, without one, `take_start_tag` any whole start tag with its prefixes,
-//! declarations and attributes (`StartTag`), `take_inside` bytes with which the open tag, comment or instruction goes
-//! on, and which show no event. They append none: what they answer says which there are. `tag_attributes` hands on the
-//! attributes of an event as those of a `StartTag`, and `value_of` finds one by its name. `place` says how many bytes
-//! were taken, `token` how many are held of the names and values of the open tag, `depth` how many elements are open.
+//! declarations and attributes (`StartTag`), `take_aside` a whole comment or one of the two ends of a CDATA section,
+//! `take_inside` bytes with which the open tag, comment or instruction goes on, and which show no event. They append
+//! none: what they answer says which there are. `tag_attributes` hands on the attributes of an event as those of a
+//! `StartTag`, and `value_of` finds one by its name. `place` says how many bytes were taken, `token` how many are held
+//! of the names and values of the open tag, `depth` how many elements are open.
 //!
 //! Of `<q:a xmlns:q="u">x</q:a>` the events are the start of `a` in the namespace `u` at 0, the character `x` at 17 and the
 //! end of `a` at 18. A `Namespace` is shared by all that stands in it: a copy takes no memory of its own. `laws` says that
@@ -21,6 +22,7 @@
 //! reader keeps the open token, and the names and declarations of the open elements.
 #![tactic(auto)]
 
+mod asides;
 mod attributes;
 mod bindings;
 mod characters;

@@ -89,7 +89,7 @@ fn common_size(piece: &[u8]) -> Option<usize>
 
 /// How many bytes the character at the front of the piece has, where it has several and XML has it.
 #[inline]
-fn wide_size(piece: &[u8]) -> Option<usize>
+pub(crate) fn wide_size(piece: &[u8]) -> Option<usize>
     ensures { IfSome result (λ n. IsWideAt piece.now n) }
 {
     match common_size(piece) {

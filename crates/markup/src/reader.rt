@@ -14,6 +14,7 @@ ghost use Rattle.markup.specs.EventItems.{Tells};
 ghost use Rattle.markup.specs.Reading.{bytes_taken, reader_failure, open_token_held, token_length, HasTaken, HasTakenUnder, HasToldUnder, MayTakeInsideUnder, Keeps, GoesOnUnder, StopsUnder, IsWhollyUnder, EndsEarlyUnder, RunsOutUnder};
 ghost use Rattle.markup.specs.Inputs.{Any, Begins, is_return};
 
+mod asides;
 mod brackets;
 mod line_ends;
 mod references;

@@ -28,7 +28,7 @@ pub(crate) fn begins_reference(piece: &[u8]) -> bool
 
 /// Whether the piece begins with the word.
 #[inline]
-fn begins_with(piece: &[u8], word: &[u8]) -> bool
+pub(crate) fn begins_with(piece: &[u8], word: &[u8]) -> bool
     ensures found { IsTrue result → (rest : List ℕ) × (piece.now ≡ word.now ++ rest) }
     ensures all { (rest : List ℕ) → piece.now ≡ word.now ++ rest → IsTrue result }
 {

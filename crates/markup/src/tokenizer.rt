@@ -76,6 +76,7 @@ fn is_plain(is_text: bool, byte: u8) -> bool
 }
 
 impl Tokenizer {
+    ghost use Rattle.markup.specs.inner.AsideTexts.{after_token};
     ghost use Rattle.markup.specs.inner.Inside.{is_inside, may_be_tag, GoesOver, GoesByOne, GoesByAll, GoesInside};
     ghost use Rattle.markup.specs.Marks.{IsLimit};
     ghost use Rattle.markup.specs.Drafts.{draft_size};
@@ -306,6 +307,18 @@ impl Tokenizer {
         requires { self.old.place + count ≤ 2 ^ 40 }
         ensures { self.new ≡ after_whole_tokens self.old count }
     {
+        self.place += count;
+        self.start = self.place;
+    }
+
+    /// Passes over a token of so many bytes, where none is open.
+    #[inline]
+    pub(crate) fn pass_token(&mut self, token: Ended, count: u64)
+        requires { self.old.place + count ≤ 2 ^ 40 }
+        ensures { self.new ≡ after_token self.old token count }
+    {
+        self.position = self.position.behind(token);
+        self.scan = Scan::Begin(self.position);
         self.place += count;
         self.start = self.place;
     }

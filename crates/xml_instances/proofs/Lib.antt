@@ -22,6 +22,7 @@ pub mod OurNames
 pub mod QuickFed
 pub mod StartFronts
 pub mod ReferenceFed
+pub mod AsideFed
 pub mod Following
 pub mod OpenRuns
 pub mod OpenAccepts

@@ -1,6 +1,6 @@
-//! Fronts of a piece that a checker takes: whole tags, whole references and line ends, runs of characters, bytes inside tokens,
-//! single bytes.
-ghost use Rattle.std.specs.Prelude.{◌≡◌, ◌<◌, ◌+◌, ◌≤◌, ◌^◌, ℕ, List, true, IfOk, length};
+//! Fronts of a piece that a checker takes: whole tags, comments, references and line ends, runs of characters, bytes inside
+//! tokens, single bytes.
+ghost use Rattle.std.specs.Prelude.{◌≡◌, ◌<◌, ◌+◌, ◌≤◌, ◌^◌, ℕ, List, true, IfOk, Ok, length};
 ghost use Rattle.markup.specs.declared.reader.Reader.{Reader};
 ghost use Rattle.message_model.specs.Tables.{types_of};
 ghost use Rattle.message_model.specs.declared.fault.InstanceError.TheVariants.{Memory};
@@ -16,6 +16,12 @@ use crate::content::Room;
 use markup::{MarkError, StartTag};
 use message_model::{InstanceError, Model};
 use std::alloc::AllocError;
+
+/// Whether the piece begins as a comment or a CDATA section does, and no tag.
+#[inline]
+fn begins_aside(piece: &[u8]) -> bool {
+    piece.len() > 1 && piece[1] == b'!'
+}
 
 impl XmlChecker {
     /// Takes a whole tag, a whole reference or line end, a run of characters, bytes inside a token or else a byte from
@@ -121,8 +127,8 @@ impl XmlChecker {
         self.take_slowly(model, piece)
     }
 
-    /// Takes the start tag, the reference or the line end that stands whole at the front of the piece, if one does that the
-    /// reader takes at once. Its first byte says which is tried.
+    /// Takes the start tag, the comment, the end of a CDATA section, the reference or the line end that stands whole at the
+    /// front of the piece, if one does that the reader takes at once. Its first bytes say which is tried.
     fn take_whole(&mut self, model: &Model, piece: &[u8]) -> Result<usize, InstanceError>
         requires some { 0 < length piece.now }
         requires room { xml_bytes_fed self.old + length piece.now ≤ 2 ^ 40 }
@@ -132,7 +138,14 @@ impl XmlChecker {
         ensures front { TakesXmlFront model.now self.old self.new piece.now result }
     {
         match piece[0] {
-            b'<' => self.take_start_tag(model, piece),
+            b'<' => {
+                if begins_aside(piece) {
+                    Ok(self.take_aside(model, piece))
+                } else {
+                    self.take_start_tag(model, piece)
+                }
+            }
+            b']' => Ok(self.take_aside(model, piece)),
             b'&' => self.take_reference(model, piece),
             b'\r' => self.take_line_end(model, piece),
             _ => Ok(0),
@@ -321,6 +334,24 @@ impl XmlChecker {
         self.events.clear();
         self.place = self.place.saturating_add(tag.bytes as u64);
         Ok(tag.bytes)
+    }
+
+    /// Takes the comment or the end of a CDATA section that stands whole at the front of the piece, if one does. It breaks
+    /// no rule, and nothing of it is kept.
+    fn take_aside(&mut self, model: &Model, piece: &[u8]) -> usize
+        requires room { xml_bytes_fed self.old + length piece.now ≤ 2 ^ 40 }
+        requires made { IsXmlCheckerFor self.old model.now }
+        ensures made { IsXmlCheckerFor self.new model.now }
+        ensures lean { KeepsNoLeaf self.old → KeepsNoLeaf self.new }
+        ensures front { TakesXmlFront model.now self.old self.new piece.now (Ok result) }
+    {
+        let _ = model.type_count();
+        let count = self.reader.take_aside(piece);
+        if count == 0 {
+            return 0;
+        }
+        self.place = self.place.saturating_add(count as u64);
+        count
     }
 
     /// Takes the bytes at the front of the piece that go on with an open token and show no event, if there are some.
