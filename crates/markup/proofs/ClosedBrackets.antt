@@ -17,7 +17,7 @@ use Rattle.markup.specs.Chars.{is_space, is_xml_char}
 use Rattle.markup.specs.Token.{Token, LineEnd, Lf, Character, token_bytes}
 use Rattle.markup.specs.Marks.{in_cdata, shows_no_closer, stands_in_cdata, stands_outside}
 use Rattle.markup.specs.Events.{Placed, items_of, open_tags}
-use Rattle.markup.specs.Faults.{is_outside}
+use Rattle.markup.specs.Faults.{is_outside, behind_brackets}
 use Rattle.markup.specs.Literals.{is_literal, IsOfText, IsBracketRun, characters_from}
 use Rattle.markup.specs.Scopes.{placed_at}
 use Rattle.markup.specs.Contexts.{IsContext, HasOpen}
@@ -30,7 +30,7 @@ use Rattle.markup.specs.inner.ReaderSteps.{IsReaderReady, passed_over}
 use Rattle.markup.specs.declared.reader.Reader.{Reader}
 use Rattle.markup.proofs.BracketRuns.{IsBracket, AreBrackets, at, behind, bracket_no_space, text_test, encoded_all, are_xml}
 use Rattle.markup.proofs.CharLemmas.{classes}
-use Rattle.markup.proofs.CharacterRuns.{character_next, line_next, character_context, line_context, plain_not}
+use Rattle.markup.proofs.CharacterRuns.{literal_still, no_closer_there, character_next, line_next, character_context, line_context, plain_not}
 use Rattle.markup.proofs.FollowedTokens.{IsNextBefore, keeps_next}
 use Rattle.markup.proofs.ReaderLemmas.{told_so_far}
 use Rattle.markup.proofs.WholeTokens.{IsNext}
@@ -126,7 +126,7 @@ module _ {limit : ℕ} (r : Reader) (between : is_between r.tokenizer.scan ≡ t
       )
       by false e = (
         ts ++ Character c ∷ [],
-        one_token [] Any [] tt c 0 (Character c) (append-nil (encode_utf8 c)) refl (λ more f. (more, refl)) (before (Character c) (character_next (reverse ts) outside_not c (inl l) e)) (character_context (reverse ts) (at r p b).context c (literal_not c l).1 h.context) h,
+        one_token [] Any [] tt c 0 (Character c) (append-nil (encode_utf8 c)) refl (λ more f. (more, refl)) (before (Character c) (character_next (reverse ts) outside_not c (inl (literal_still c l)) (no_closer_there c (not (in_cdata (reverse ts))) (behind_brackets (reverse ts)) (literal_not c l).0) e)) (character_context (reverse ts) (at r p b).context c (literal_not c l).1 h.context) h,
       )
 
   steps : (cs : List ℕ) (x p b : ℕ) (bytes : List ℕ) (ts : List Token) (told : List Placed) → AllByRecursion IsBracket cs → is_literal x ≡ true → Keeps limit (StartsWith (encode_utf8_all cs ++ (encode_utf8 x ++ []))) (at r p b) bytes ts told
@@ -179,11 +179,11 @@ passes_closed {limit} r xs bytes told n w k i h =
 -- ---- such a run, found at the front
 
 low_text : (cs : List ℕ) (x : ℕ) → AllByRecursion IsBracket cs → is_literal x ≡ true → AllByRecursion IsOfText (cs ++ x ∷ [])
-low_text [] x a l = (inl (inl l), tt)
+low_text [] x a l = (inl (inl (literal_still x l)), tt)
 low_text (c ∷ cs) x a l = (inr a.0, low_text cs x a.1 l)
 
 xml_all : (cs : List ℕ) (x : ℕ) → AllByRecursion IsBracket cs → is_literal x ≡ true → AllByRecursion IsXmlChar (cs ++ x ∷ [])
-xml_all [] x a l = ((classes.xml x).0 (plain_not x l).0, tt)
+xml_all [] x a l = ((classes.xml x).0 (plain_not x (literal_still x l)).0, tt)
 xml_all (c ∷ cs) x a l = ((are_xml (c ∷ []) (a.0, tt)).0, xml_all cs x a.1 l)
 
 encoded_more : (cs : List ℕ) (x : ℕ) → AllByRecursion IsBracket cs → is_literal x ≡ true → encode_utf8_all (cs ++ x ∷ []) ≡ cs ++ x ∷ []

@@ -15,7 +15,7 @@ use Rattle.lexical_core.specs.declared.utf8.Utf8.TheVariants.{More, Char}
 use Rattle.lexical_core.proofs.ByteForms.{Spells, spells_2, spells_3}
 use Rattle.markup.specs.Chars.{is_xml_char, is_space}
 use Rattle.markup.proofs.CharLemmas.{classes, some_bytes}
-use Rattle.markup.specs.Literals.{is_literal, is_still_space, IsLiteral, IsOfText, IsFreeRun, IsAt, IsWideAt}
+use Rattle.markup.specs.Literals.{is_still_literal, is_still_space, IsLiteral, IsOfText, IsFreeRun, IsAt, IsWideAt}
 
 -- so many bytes of the piece have come, which are a front of one character
 pub record IsBegun (piece : List ℕ) (utf8 : Option (List ℕ)) (count : ℕ) (rest : List ℕ) : Type 0 where
@@ -113,7 +113,7 @@ of_text [] h = tt
 of_text (c ∷ cs) h = (inl h.0, of_text cs h.1)
 
 -- such characters are characters of XML
-plain_allowed : (c : ℕ) → is_literal c ≡ true → is_xml_char c ≡ true
+plain_allowed : (c : ℕ) → is_still_literal c ≡ true → is_xml_char c ≡ true
 unfolding is_xml_char
 plain_allowed c h = grind (arith, nat_tests)
 
@@ -149,15 +149,15 @@ blanks_encoded : (cs : List ℕ) → list_all is_space (encode_utf8_all cs) ≡ 
 blanks_encoded [] = refl
 blanks_encoded (c ∷ cs) = blank_encoded c (encode_utf8_all cs) ∙ ap (λ b. is_space c && b) (blanks_encoded cs)
 
-literal_ascii : (c : ℕ) → is_literal c ≡ true → c < 128
+literal_ascii : (c : ℕ) → is_still_literal c ≡ true → c < 128
 literal_ascii c h = grind (arith, nat_tests)
 
 -- literal bytes are their own characters
-literal_front : (xs : List ℕ) (n : ℕ) → n ≤ prefix_len is_literal xs → (encode_utf8_all (take n xs) ≡ take n xs) × AllByRecursion IsLiteral (take n xs)
-literal_front xs zero h = (refl, tt)
-literal_front [] (suc n) h = (refl, tt)
-literal_front (x ∷ xs) (suc n) h = by (is_literal x) refl h (λ k. literal_front xs n k) where
-  by : (b : Bool) → is_literal x ≡ b → suc n ≤ cond b (1 + prefix_len is_literal xs) 0 → (n ≤ prefix_len is_literal xs → (encode_utf8_all (take n xs) ≡ take n xs) × AllByRecursion IsLiteral (take n xs)) → (encode_utf8_all (x ∷ take n xs) ≡ x ∷ take n xs) × AllByRecursion IsLiteral (x ∷ take n xs)
+literal_bytes : (xs : List ℕ) (n : ℕ) → n ≤ prefix_len is_still_literal xs → (encode_utf8_all (take n xs) ≡ take n xs) × AllByRecursion IsLiteral (take n xs)
+literal_bytes xs zero h = (refl, tt)
+literal_bytes [] (suc n) h = (refl, tt)
+literal_bytes (x ∷ xs) (suc n) h = by (is_still_literal x) refl h (λ k. literal_bytes xs n k) where
+  by : (b : Bool) → is_still_literal x ≡ b → suc n ≤ cond b (1 + prefix_len is_still_literal xs) 0 → (n ≤ prefix_len is_still_literal xs → (encode_utf8_all (take n xs) ≡ take n xs) × AllByRecursion IsLiteral (take n xs)) → (encode_utf8_all (x ∷ take n xs) ≡ x ∷ take n xs) × AllByRecursion IsLiteral (x ∷ take n xs)
   by true e h more =
       let k = more (omega arith) in
       (ap (λ v. v ++ encode_utf8_all (take n xs)) (encode_ascii x (literal_ascii x e)) ∙ ap (λ v. x ∷ v) k.0, (inl e, k.1))
@@ -184,9 +184,9 @@ walked_on piece bytes characters m n rest after cs w l e b k f = record {
 }
 
 -- literal bytes
-pub walked_plain : (piece : List ℕ) (bytes characters n : ℕ) (rest after : List ℕ) → IsWalkedFree piece bytes characters rest → n ≡ prefix_len is_literal rest → n ≤ length rest → after ≡ drop n rest → IsWalkedFree piece (bytes + n) (characters + n) after
+pub walked_plain : (piece : List ℕ) (bytes characters n : ℕ) (rest after : List ℕ) → IsWalkedFree piece bytes characters rest → n ≡ prefix_len is_still_literal rest → n ≤ length rest → after ≡ drop n rest → IsWalkedFree piece (bytes + n) (characters + n) after
 walked_plain piece bytes characters n rest after w p h e =
-    let f = literal_front rest n (omega (arith, p)) in
+    let f = literal_bytes rest n (omega (arith, p)) in
     let l : length (take n rest) ≡ n = length-take-le n rest h in
     walked_on piece bytes characters n n rest after (take n rest) w f.1
     (sym (take-append-drop n rest) ∙ (ap (λ v. v ++ drop n rest) (sym f.0) ∙ ap (λ v. encode_utf8_all (take n rest) ++ v) (sym e)))
@@ -219,7 +219,7 @@ walked_within piece bytes characters rest w = ap (λ n. n + length rest) (sym w.
 
 -- ---- white space
 
-pub still_literal : (x : ℕ) → is_still_space x ≡ true → is_literal x ≡ true
+pub still_literal : (x : ℕ) → is_still_space x ≡ true → is_still_literal x ≡ true
 unfolding is_space
 still_literal x h = grind (arith, nat_tests)
 
@@ -227,12 +227,12 @@ still_blank : (x : ℕ) → is_still_space x ≡ true → is_space x ≡ true
 unfolding is_space
 still_blank x h = grind (arith, nat_tests)
 
-still_front : (xs : List ℕ) (n : ℕ) → n ≤ prefix_len is_still_space xs → (n ≤ prefix_len is_literal xs) × (list_all is_space (take n xs) ≡ true)
+still_front : (xs : List ℕ) (n : ℕ) → n ≤ prefix_len is_still_space xs → (n ≤ prefix_len is_still_literal xs) × (list_all is_space (take n xs) ≡ true)
 still_front xs zero h = (omega arith, refl)
 still_front [] (suc n) h = (h, refl)
 still_front (x ∷ xs) (suc n) h = by (is_still_space x) refl h (λ k. still_front xs n k) where
-  by : (b : Bool) → is_still_space x ≡ b → suc n ≤ cond b (1 + prefix_len is_still_space xs) 0 → (n ≤ prefix_len is_still_space xs → (n ≤ prefix_len is_literal xs) × (list_all is_space (take n xs) ≡ true))
-      → (suc n ≤ cond (is_literal x) (1 + prefix_len is_literal xs) 0) × ((is_space x && list_all is_space (take n xs)) ≡ true)
+  by : (b : Bool) → is_still_space x ≡ b → suc n ≤ cond b (1 + prefix_len is_still_space xs) 0 → (n ≤ prefix_len is_still_space xs → (n ≤ prefix_len is_still_literal xs) × (list_all is_space (take n xs) ≡ true))
+      → (suc n ≤ cond (is_still_literal x) (1 + prefix_len is_still_literal xs) 0) × ((is_space x && list_all is_space (take n xs)) ≡ true)
   by true e h more =
       let k = more (omega arith) in
       (rw (still_literal x e) (omega (arith, k.0)), rw (still_blank x e) k.1)
@@ -242,7 +242,7 @@ still_front (x ∷ xs) (suc n) h = by (is_still_space x) refl h (λ k. still_fro
 pub blank_run : (xs : List ℕ) (n : ℕ) → n ≡ prefix_len is_still_space xs → n ≤ length xs → IsFreeRun (take n xs) n × (list_all is_space (take n xs) ≡ true)
 blank_run xs n e within =
     let s = still_front xs n (omega (arith, e)) in
-    let f = literal_front xs n s.0 in (
+    let f = literal_bytes xs n s.0 in (
       (
         record {
           characters = take n xs;

@@ -1,12 +1,18 @@
 -- A reader behind a start tag that it takes whole, and one that refuses it.
-use Rattle.std.proofs.Common.{◌≡◌, ℕ, true, false, ◌+◌, List, [], ◌∷◌, ◌++◌, length, take, drop, reverse, Option, Some, None, refl, sym, ◌∙◌, ap, subst, append_assoc, append-nil, arith}
+use Rattle.std.proofs.Common.{◌≡◌, ℕ, Bool, true, false, ◌+◌, codes, List, [], ◌∷◌, ◌++◌, length, take, drop, reverse, Option, Some, None, refl, sym, ◌∙◌, ap, ap₂, subst, append_assoc, append-nil, arith}
 use Rattle.std.specs.Bool.{if◌then◌else◌}
 use Rattle.std.specs.List.{flat_map}
 use Rattle.std.specs.Option.{IfSome}
 use Rattle.std.proofs.lemmas.Bool.{and_parts, eqb-true, le-leb}
 use Rattle.std.proofs.lemmas.List.{length-take-le, take-append-drop}
+use Rattle.std.proofs.lemmas.Str.{encode_ascii, encodes-append}
+use Rattle.std.specs.Str.{encode_utf8_all}
 use Rattle.lexical_core.specs.declared.rule.Rule.{Rule}
+use Rattle.markup.specs.Attribute.{attribute_text}
+use Rattle.markup.specs.Name.{name_text}
+use Rattle.markup.specs.PlainTags.{joined_text}
 use Rattle.markup.specs.Token.{Token, Start, token_bytes, is_start_tag}
+use Rattle.markup.specs.Token.{StartTag as TagToken}
 use Rattle.markup.specs.Marks.{in_cdata, stands, is_short, Cell, Front}
 use Rattle.markup.specs.Events.{Placed, events, items_of}
 use Rattle.markup.specs.Faults.{rule_of, MarkFaultUnder, broken}
@@ -14,13 +20,17 @@ use Rattle.markup.specs.Scopes.{placed_at}
 use Rattle.markup.specs.Contexts.{IsContext}
 use Rattle.markup.specs.Reading.{HasTakenUnder, HasToldUnder, RefusesUnder, RunsOutUnder}
 use Rattle.markup.specs.Tokenizers.{is_between, is_in_text, after_whole_tokens}
+use Rattle.markup.specs.inner.TagParts.{spelled_opening}
 use Rattle.markup.specs.inner.WholeStarts.{IsStartAt}
 use Rattle.markup.specs.declared.context.Context.{Context}
 use Rattle.markup.specs.declared.event.Event.{Event}
 use Rattle.markup.specs.declared.reader.Reader.{Reader}
+use Rattle.markup.specs.declared.attributes.TagAttribute.{TagAttribute}
 use Rattle.markup.specs.declared.tag.Opening.{Opening}
+use Rattle.markup.specs.declared.tag.Spelled.{Spelled}
 use Rattle.markup.proofs.EventTells.{tells_none}
 use Rattle.markup.proofs.NoCut.{stays_no_cut}
+use Rattle.markup.proofs.OpenTags.{IsSpelledName, written}
 use Rattle.markup.proofs.PlainLemmas.{is_fresh, text_place, text_between}
 use Rattle.markup.proofs.ReaderLemmas.{told_so_far, starts}
 use Rattle.markup.proofs.TokenRuleLemmas.{in_cdata-open}
@@ -29,6 +39,24 @@ use Rattle.markup.proofs.WholeTokens.{IsNext, none_open, all_told, takes_next}
 -- what holds of a tag that is there
 pub some_holds : {A : Type 0} (Holds : A → Type 0) (o : Option A) (tag : A) → o ≡ Some tag → IfSome o Holds → Holds tag
 some_holds Holds o tag e h = subst (λ v. IfSome v Holds) e h
+
+regroup : (name given gap ends : List ℕ) → codes "<" ++ name ++ given ++ gap ++ ends ≡ 60 ∷ (name ++ (given ++ (gap ++ ends)))
+regroup name given gap ends = simp append_assoc
+
+-- the tag begins with its name
+pub named_start : (piece prefix name : List ℕ) (attributes : List TagAttribute) (is_empty : Bool) (count : ℕ) → IsStartAt piece (spelled_opening prefix name attributes is_empty) count → (rest : List ℕ) × (piece ≡ 60 ∷ (joined_text prefix name ++ rest))
+named_start piece prefix name attributes is_empty count at =
+    let t : TagToken = at.start in
+    let n : Spelled = record { prefix = prefix; local = name } in
+    let s : IsSpelledName n = record { name = t.name; is = (and_parts _ _ (and_parts _ _ at.is).0).0; says = ap (λ (o : Opening). o.name) at.says } in
+    let ends : List ℕ = if t.is_empty then codes "/>" else codes ">" in
+    let behind : List ℕ = flat_map attribute_text t.attributes ++ (t.gap ++ ends) in
+    let tag : token_bytes (Start t) ≡ 60 ∷ (joined_text prefix name ++ encode_utf8_all behind) =
+    ap encode_utf8_all (regroup (name_text t.name) (flat_map attribute_text t.attributes) t.gap ends)
+    ∙ ap₂ (λ (x y : List ℕ). x ++ y) (encode_ascii 60 (omega arith)) (encodes-append (name_text t.name) behind ∙ ap (λ (v : List ℕ). v ++ encode_utf8_all behind) (written n s)) in (
+      encode_utf8_all behind ++ drop count piece,
+      sym (take-append-drop count piece) ∙ (ap (λ (v : List ℕ). v ++ drop count piece) (at.spelled ∙ tag) ∙ ap (λ (v : List ℕ). 60 ∷ v) (append_assoc (joined_text prefix name) (encode_utf8_all behind) (drop count piece))),
+    )
 
 module _ {limit : ℕ} (r : Reader) (bytes piece : List ℕ) (told : List Placed) (h : HasTakenUnder limit r bytes told) (old new : List Event) where
   abbrev ts : List Token

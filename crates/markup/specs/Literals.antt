@@ -1,6 +1,6 @@
 -- Runs of characters that stand by themselves.
-use Rattle.std.specs.Prelude.{◌≡◌, ℕ, Bool, ◌+◌, ◌==◌, ◌&&◌, ◌||◌, ◌⊎◌, nat_le, not, true, List, [], ◌∷◌, ◌++◌, length, encode_utf8, encode_utf8_all}
-use Rattle.std.specs.List.{AllByRecursion, list_all}
+use Rattle.std.specs.Prelude.{◌≡◌, ℕ, Bool, ◌+◌, ◌==◌, ◌&&◌, ◌||◌, ◌⊎◌, nat_le, not, true, List, [], ◌∷◌, ◌++◌, length, encode_utf8, encode_utf8_all, if◌then◌else◌}
+use Rattle.std.specs.List.{AllByRecursion, list_all, prefix_len}
 use Rattle.lexical_core.specs.Characters.{IsXmlChar}
 use Rattle.lexical_core.specs.Tree.{Char}
 use Rattle.markup.specs.Chars.{is_xml_char, is_space}
@@ -10,13 +10,22 @@ use Rattle.markup.specs.Events.{Placed}
 abbrev pub is_literal : ℕ → Bool
 is_literal byte = (nat_le 32 byte && nat_le byte 127 && not (byte == 60) && not (byte == 38) && not (byte == 93) && not (byte == 62)) || byte == 9 || byte == 10
 
+-- the same, and a `>`, which is a character too where it ends no `]]>` (XML 1.0 §2.4)
+abbrev pub is_still_literal : ℕ → Bool
+is_still_literal byte = (nat_le 32 byte && nat_le byte 127 && not (byte == 60) && not (byte == 38) && not (byte == 93)) || byte == 9 || byte == 10
+
+-- how many bytes at the front are such characters whatever stands before them: a literal one, and those behind it
+abbrev pub literal_front : List ℕ → ℕ
+literal_front [] = 0
+literal_front (byte ∷ bytes) = if is_literal byte then 1 + prefix_len is_still_literal bytes else 0
+
 -- white space that stands by itself: a CR does not, which an LF may join (XML 1.0 §2.3, S; §2.11)
 abbrev pub is_still_space : ℕ → Bool
 is_still_space byte = is_space byte && not (byte == 13)
 
 -- a character that is one of an element's text there: such a byte, or a character of several bytes that XML has (XML 1.0 §2.2)
 abbrev pub IsLiteral : ℕ → Type 0
-IsLiteral c = (is_literal c ≡ true) ⊎ ((nat_le 128 c ≡ true) × (is_xml_char c ≡ true))
+IsLiteral c = (is_still_literal c ≡ true) ⊎ ((nat_le 128 c ≡ true) × (is_xml_char c ≡ true))
 
 -- a character that is told in a run: one of these, or a `]`, which is a character by itself outside CDATA sections
 abbrev pub IsOfText : ℕ → Type 0
@@ -31,7 +40,7 @@ pub record IsRun (bytes : List ℕ) (count : ℕ) : Type 0 where
   pub allowed : AllByRecursion IsXmlChar characters
   pub blank_is : list_all is_space bytes ≡ list_all is_space characters
 
--- none of them is a `]`, and so they stand by themselves in a CDATA section too
+-- none of them is a `]`: they stand by themselves in a CDATA section too, and in text where the first is no `>` that ends a `]]>`
 abbrev pub IsFreeRun : List ℕ → ℕ → Type 0
 IsFreeRun bytes count = (run : IsRun bytes count) × AllByRecursion IsLiteral run.characters
 

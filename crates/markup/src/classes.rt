@@ -2,25 +2,24 @@
 ghost use Rattle.std.specs.Prelude.{◌≡◌};
 ghost use Rattle.markup.specs.Chars.{is_space};
 ghost use Rattle.markup.specs.PlainStarts.{is_literal_of};
-ghost use Rattle.markup.specs.Literals.{is_literal, is_still_space};
+ghost use Rattle.markup.specs.Literals.{is_still_literal, is_still_space};
 ghost use Rattle.markup.specs.PlainTags.{continues_plain};
 ghost use Rattle.markup.specs.inner.Inside.{is_passed, passed_end};
 
 use lexical_core::ByteClass;
 use std::simd::prelude::*;
 
-/// Characters of an element's text wherever a token begins there, whatever stands before them and
-/// behind them (XML 1.0 §2.4, §2.7, §2.11): a tab, an LF, and those from 0x20 to 0x7F that are not
-/// `<`, `&`, `]` or `>`.
-pub(crate) struct Literal;
+/// Characters of an element's text wherever a token begins there (XML 1.0 §2.4, §2.7, §2.11): a tab,
+/// an LF, and those from 0x20 to 0x7F that are not `<`, `&` or `]`; a `>` where it ends no `]]>`.
+pub(crate) struct StillLiteral;
 
-impl ByteClass for Literal {
-    ghost class = { λ _. is_literal };
+impl ByteClass for StillLiteral {
+    ghost class = { λ _. is_still_literal };
 
     #[inline]
     fn has(&self, byte: u8) -> bool {
         if byte >= 0x20 {
-            byte <= 0x7F && byte != b'<' && byte != b'&' && byte != b']' && byte != b'>'
+            byte <= 0x7F && byte != b'<' && byte != b'&' && byte != b']'
         } else {
             byte == b'\n' || byte == b'\t'
         }
@@ -33,8 +32,7 @@ impl ByteClass for Literal {
             & bytes.simd_ne(u8x16::splat(b'\n'))
             | bytes.simd_eq(u8x16::splat(b'<'))
             | bytes.simd_eq(u8x16::splat(b'&'))
-            | bytes.simd_eq(u8x16::splat(b']'))
-            | bytes.simd_eq(u8x16::splat(b'>'))).to_bitmask()
+            | bytes.simd_eq(u8x16::splat(b']'))).to_bitmask()
     }
 
     #[inline]
@@ -44,8 +42,7 @@ impl ByteClass for Literal {
             & bytes.simd_ne(u8x8::splat(b'\n'))
             | bytes.simd_eq(u8x8::splat(b'<'))
             | bytes.simd_eq(u8x8::splat(b'&'))
-            | bytes.simd_eq(u8x8::splat(b']'))
-            | bytes.simd_eq(u8x8::splat(b'>'))).to_bitmask()
+            | bytes.simd_eq(u8x8::splat(b']'))).to_bitmask()
     }
 }
 

@@ -106,6 +106,14 @@ impl Context {
         self.scope.depth()
     }
 
+    /// Whether two literal `]` stand last.
+    #[inline]
+    pub(crate) fn is_behind_brackets(&self) -> bool
+        ensures { result ≡ (self.now.brackets == 2) }
+    {
+        self.brackets == 2
+    }
+
     /// Passes over characters none of which is `]`.
     #[inline]
     pub(crate) fn pass_characters(&mut self)

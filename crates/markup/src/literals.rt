@@ -3,11 +3,11 @@ ghost use Rattle.std.specs.Prelude.{◌≡◌, ◌<◌, ◌≤◌, ◌↔◌, If
 ghost use Rattle.std.specs.List.{prefix_len, list_all};
 ghost use Rattle.lexical_core.specs.Begun.{IsTail};
 ghost use Rattle.markup.specs.Chars.{is_space};
-ghost use Rattle.markup.specs.Literals.{is_literal, is_still_space, IsAt, IsWideAt, IsFreeRun, IsBracketRun};
+ghost use Rattle.markup.specs.Literals.{is_literal, is_still_literal, is_still_space, IsAt, IsWideAt, IsFreeRun, IsBracketRun};
 ghost use Rattle.markup.specs.inner.ClosedBrackets.{IsClosedRun};
 
 use crate::characters::is_allowed;
-use crate::classes::{Blank, Literal, StillBlank};
+use crate::classes::{Blank, StillBlank, StillLiteral};
 use lexical_core::{ByteClass, Utf8, Utf8Step, run_length};
 
 /// A run of characters.
@@ -50,6 +50,19 @@ fn size_at(piece: &[u8]) -> Option<usize>
         rest = after;
     }
     None
+}
+
+/// Whether the byte is a character of an element's text, or a line end, wherever a token begins there,
+/// whatever stands before it and behind it (XML 1.0 §2.4, §2.7, §2.11).
+#[inline]
+fn is_literal_byte(byte: u8) -> bool
+    ensures { result ≡ is_literal byte }
+{
+    if byte >= 0x20 {
+        byte <= 0x7F && byte != b'<' && byte != b'&' && byte != b']' && byte != b'>'
+    } else {
+        byte == b'\n' || byte == b'\t'
+    }
 }
 
 /// Whether the byte may stand third in UTF-8, or second where the first byte says no more (RFC 3629 §4).
@@ -111,17 +124,17 @@ fn rare_size(piece: &[u8]) -> Option<usize>
     size_at(piece)
 }
 
-/// How many bytes at the front of the piece are literal. A piece that begins with none is told by its
-/// first byte.
+/// How many bytes at the front of the piece are literal, or `>`. A piece that begins with none is told
+/// by its first byte.
 #[inline]
 fn literal_length(piece: &[u8]) -> usize
     ensures within { result ≤ length piece.now }
-    ensures count { result ≡ prefix_len is_literal piece.now }
+    ensures count { result ≡ prefix_len is_still_literal piece.now }
 {
     match piece.split_first() {
         Some((first, _)) => {
-            if Literal.has(*first) {
-                run_length(&Literal, piece)
+            if StillLiteral.has(*first) {
+                run_length(&StillLiteral, piece)
             } else {
                 0
             }
@@ -135,7 +148,7 @@ fn literal_length(piece: &[u8]) -> usize
 fn literal_extent(piece: &[u8]) -> Extent
     ensures within { result.bytes ≤ length piece.now }
     ensures only { IsFreeRun (take result.bytes piece.now) result.characters }
-    ensures all { prefix_len is_literal piece.now ≤ result.bytes }
+    ensures all { prefix_len is_still_literal piece.now ≤ result.bytes }
 {
     let mut bytes = 0_usize;
     let mut characters = 0_usize;
@@ -171,7 +184,7 @@ pub(crate) fn literal_run(piece: &[u8]) -> Run
     ensures within { result.bytes ≤ length piece.now }
     ensures only { IsFreeRun (take result.bytes piece.now) result.characters }
     ensures blank { result.blank ≡ list_all is_space (take result.bytes piece.now) }
-    ensures all { prefix_len is_literal piece.now ≤ result.bytes }
+    ensures all { prefix_len is_still_literal piece.now ≤ result.bytes }
 {
     let Extent { bytes, characters } = literal_extent(piece);
     let (front, _) = piece.split_at(bytes);
@@ -196,7 +209,7 @@ pub(crate) fn blank_length(piece: &[u8]) -> usize
 /// Whether the piece begins with a `]`, which is not literal.
 #[inline]
 pub(crate) fn begins_with_bracket(piece: &[u8]) -> bool
-    ensures { IsTrue result → prefix_len is_literal piece.now ≡ 0 }
+    ensures { IsTrue result → prefix_len is_still_literal piece.now ≡ 0 }
 {
     match piece.split_first() {
         Some((first, _)) => *first == b']',
@@ -207,7 +220,7 @@ pub(crate) fn begins_with_bracket(piece: &[u8]) -> bool
 /// Whether the piece begins with a `<` or a `&`, which are not literal.
 #[inline]
 pub(crate) fn begins_with_markup(piece: &[u8]) -> bool
-    ensures { IsTrue result → prefix_len is_literal piece.now ≡ 0 }
+    ensures { IsTrue result → prefix_len is_still_literal piece.now ≡ 0 }
 {
     match piece.split_first() {
         Some((first, _)) => *first == b'<' || *first == b'&',
@@ -246,5 +259,5 @@ pub(crate) fn closed_length(piece: &[u8]) -> usize
     let Some((next, _)) = behind.split_first() else {
         return 0;
     };
-    if Literal.has(*next) { count + 1 } else { 0 }
+    if is_literal_byte(*next) { count + 1 } else { 0 }
 }

@@ -171,14 +171,16 @@ impl Reader {
         }
     }
 
-    /// How many elements are open, whose start tags have ended and whose end tags have not.
+    /// How many elements are open, whose start tags have ended and whose end tags have not. After an
+    /// error it says nothing of the bytes.
     pub fn depth(&self) -> usize
         ensures { (limit : ℕ) (bytes : List ℕ) (tokens : List Token) (told : List Placed) → Keeps limit Any self.now bytes tokens told → result ≡ length (open_tags (reverse tokens)) }
     {
         self.context.depth()
     }
 
-    /// How many bytes were taken.
+    /// How many bytes were taken. After an error it says nothing of the bytes: the fault has its own
+    /// place, and the byte with which `take` ran out of memory may be counted or not.
     pub fn place(&self) -> u64
         ensures { result ≡ bytes_taken self.now }
     {

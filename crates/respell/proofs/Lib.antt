@@ -28,6 +28,7 @@ pub mod Fronts
 pub mod FragmentFronts
 pub mod FragmentSteps
 pub mod Within
+pub mod RunTexts
 pub mod TakenRuns
 pub mod TakenTags
 pub mod FragmentParts

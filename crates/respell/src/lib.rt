@@ -23,6 +23,7 @@ mod fragment_check;
 mod fragment_reader;
 pub mod laws;
 mod respell;
+mod run_spelling;
 mod spelling;
 
 pub use fragment_check::{FragmentCheck, is_fragment};

@@ -1,9 +1,11 @@
 -- The two steps of a reader with a byte: what the byte does not go on with, and the byte itself.
-use Rattle.std.specs.Prelude.{◌≡◌, ℕ, true, List, [], ◌∷◌, ◌++◌, Some, Result, MatchResult, if◌then◌else◌}
+use Rattle.std.specs.Prelude.{◌≡◌, ℕ, Bool, ◌==◌, ◌&&◌, not, true, List, [], ◌∷◌, ◌++◌, Some, Result, MatchResult, if◌then◌else◌}
 use Rattle.lexical_core.specs.Tree.{Char}
 use Rattle.markup.specs.Token.{Token}
 use Rattle.markup.specs.Events.{Placed, items_of}
 use Rattle.markup.specs.Faults.{rule_of}
+use Rattle.markup.specs.Marks.{begins_with}
+use Rattle.markup.specs.TokenRules.{is_cdata}
 use Rattle.markup.specs.EventItems.{Tells, TellsClean}
 use Rattle.markup.specs.Scopes.{placed_at}
 use Rattle.markup.specs.Contexts.{TakesToken, HasOpen, without_brackets}
@@ -46,6 +48,10 @@ TokenAnswered before t place old new context result = MatchResult result (λ _. 
 pub record IsReaderReady (reader : Reader) : Type 0 where
   pub ready : is_ready reader.tokenizer ≡ true
   pub inside : HasOpen reader.context
+
+-- the bytes begin with a `>` that would end a `]]>` of an element's text (XML 1.0 §2.4)
+abbrev pub bars_closer : Reader → List ℕ → Bool
+bars_closer r bytes = begins_with 62 bytes && not (is_cdata r.tokenizer.position) && r.context.brackets == 2
 
 -- so many bytes are taken, each of which is a character
 abbrev pub passed_over : Reader → ℕ → Reader

@@ -6,6 +6,7 @@ ghost use Rattle.markup.specs.PlainTags.{tag_items, innermost_namespace};
 ghost use Rattle.respell.specs.Kept.{HasTakenItems, HasWritten, IsInDefault, opened_by};
 
 use super::Respell;
+use crate::run_spelling::push_run;
 use markup::TagKind;
 use std::alloc::AllocError;
 
@@ -51,11 +52,11 @@ impl Respell {
         !self.prefixed && !self.defaults.as_slice().is_empty()
     }
 
-    /// Writes a run of characters.
+    /// Writes a run of characters, with the reference to each `>` in its place.
     pub(crate) fn run(&mut self, run: &[u8]) -> Result<(), AllocError>
         ensures { (forgotten : List ℕ) (items : List Item) (count : ℕ) (r : IsRun run.now count) → HasWritten self.old forgotten items → OnOk result (HasWritten self.new forgotten (items ++ map (λ c. Char c) r.characters)) }
     {
-        self.text.extend(run)
+        push_run(&mut self.text, run)
     }
 
     /// Writes a tag.

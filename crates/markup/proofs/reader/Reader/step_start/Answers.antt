@@ -8,7 +8,7 @@ use Rattle.markup.specs.inner.TagParts.{spelled_opening}
 use Rattle.markup.specs.inner.WholeStarts.{IsStartAt}
 use Rattle.markup.proofs.OpenedTags.{found_at, takes_told, same_told}
 use Rattle.markup.proofs.StartsFound.{found_size, none_found}
-use Rattle.markup.proofs.StartsTold.{refuses_start, stays_out}
+use Rattle.markup.proofs.StartsTold.{named_start, refuses_start, stays_out}
 use Rattle.markup.proofs.reader.Reader.step_start.Goals as goal
 
 pub returns-in-Ok-None-clause-all : goal.returns-in-Ok-None-clause-all
@@ -19,6 +19,11 @@ returns-in-Ok-clause-all c limit bytes told tag rest m e = found_size c.in-Ok-So
 
 pub returns-in-Err-clause-err : goal.returns-in-Err-clause-err
 returns-in-Err-clause-err c limit bytes told h = stays_out c.args.self.now bytes c.args.piece.now told h [] [] c.in-Err.ensures.begun refl
+
+pub returns-in-Ok-clause-spelled : goal.returns-in-Ok-clause-spelled
+returns-in-Ok-clause-spelled c =
+    let t = c.in-Ok-Some.tag in
+    named_start c.args.piece.now t.prefix.now t.name.now t.attributes.items t.is_empty t.bytes (found_at c.args.piece.now c.in-Ok-Some.field-0 t c.in-Ok-Some.field-0-is c.in-Ok-Some.ensures.found)
 
 pub returns-in-Ok-clause-taken : goal.returns-in-Ok-clause-taken
 returns-in-Ok-clause-taken c limit bytes told h =

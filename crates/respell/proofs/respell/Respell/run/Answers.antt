@@ -8,4 +8,4 @@ if_ok (Ok x) f h = f h
 if_ok (Err e) f h = tt
 
 pub returns : goal.returns
-returns c forgotten items count r h = if_ok c.extend.result (λ text. taken_run c.args.self.now _ forgotten c.args.run.now items count r h text refl refl refl refl) c.extend.ensures.ok
+returns c forgotten items count r h = if_ok c.push_run.result (λ text. taken_run c.args.self.now _ forgotten c.args.run.now items count r h text refl refl refl refl) c.push_run.ensures
