@@ -1,6 +1,6 @@
 -- Why codes are refused.
 use Rattle.std.specs.Prelude.{◌≡◌, ℕ, ◌+◌, ◌<◌, ◌≤◌, ◌⊎◌, List, length, All, Option, IfSome}
-use Rattle.std.specs.Io.KnownBytes.{IsAtEnd}
+use Rattle.std.specs.Io.KnownBytes.{Consumes, IsAtEnd}
 use Rattle.lexical_core.specs.Characters.{IsXmlText}
 use Rattle.outside.specs.Reading.{PassesBy}
 use Rattle.repo_objects.specs.Repository.{DictionaryEntry}
@@ -31,12 +31,20 @@ RefusesSource bytes (Refused rule number) = ((codes_limit < length bytes) × (ru
 RefusesSource bytes Failed = Unit {0}
 RefusesSource bytes Memory = Unit {0}
 
+-- the refusal is one of some bytes, also where the source tells none
+abbrev pub IsRefusalOfBytes : CodesError → Type 0
+IsRefusalOfBytes e = (bytes : List ℕ) × RefusesSource bytes e
+
 -- The source was read to its end, and had no more bytes than the limit, or one byte was pulled beyond that.
 abbrev pub AreCodesPulled : Option (List ℕ) → Option (List ℕ) → Type 0
 AreCodesPulled old new = (IsAtEnd new × IfSome old (λ bytes. length bytes ≤ codes_limit)) ⊎ PassesBy old new (codes_limit + 1)
 
--- how far the source was pulled where its codes are refused
+-- they are no more than the limit
+abbrev pub AreFewBytes : List ℕ → Type 0
+AreFewBytes bytes = length bytes ≤ codes_limit
+
+-- How far the source was pulled where its codes are refused. Where it failed, it gave no more than the limit before.
 abbrev pub PullsForRefusal : Option (List ℕ) → Option (List ℕ) → CodesError → Type 0
 PullsForRefusal old new (Refused rule number) = AreCodesPulled old new
-PullsForRefusal old new Failed = Unit {0}
+PullsForRefusal old new Failed = (taken : List ℕ) × Consumes old new taken × AreFewBytes taken
 PullsForRefusal old new Memory = Unit {0}

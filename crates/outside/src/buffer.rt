@@ -1,5 +1,5 @@
 //! Bytes that are gathered before they go to a sink.
-ghost use Rattle.std.specs.Prelude.{◌≡◌, ◌+◌, ◌-◌, ◌<◌, ◌≤◌, ◌++◌, IsTrue, false, Some, [], length, take};
+ghost use Rattle.std.specs.Prelude.{◌≡◌, ◌+◌, ◌-◌, ◌<◌, ◌≤◌, ◌++◌, IsTrue, false, Some, [], length, take, OnErr};
 ghost use Rattle.outside.specs.Pushes.{Pushes};
 ghost use Rattle.outside.specs.Sink.{PushAppends, HasSinkCause, HasRoom};
 
@@ -103,6 +103,7 @@ impl Sink for Buffer {
         ensures bytes { PushAppends (Some self.old) (Some self.new) result bytes.now }
         ensures cause { HasSinkCause 0 0 result }
         ensures room { HasRoom (8192 - length self.old) (8192 - length self.new) result bytes.now }
+        ensures unchanged { OnErr result (self.new ≡ self.old) }
     {
         if bytes.len() > ROOM - self.count {
             return Err(SinkError::Memory);

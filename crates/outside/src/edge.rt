@@ -1,5 +1,5 @@
 //! A source over a reader and a sink over a writer: where the program meets files and streams.
-ghost use Rattle.std.specs.Prelude.{◌≡◌, ◌+◌, ◌-◌, ◌^◌, Some, None, min, IsErr, IsNone, MatchResult, IsOkUnless, Option};
+ghost use Rattle.std.specs.Prelude.{◌≡◌, ◌+◌, ◌-◌, ◌^◌, Some, None, min, IsErr, IsNone, MatchResult, IsOkUnless, Option, true};
 ghost use Rattle.std.specs.Io.{ReadsAtMost};
 ghost use Rattle.std.specs.Io.KnownBytes.{ReadConsumes};
 ghost use Rattle.std.specs.Option.{option_and_then};
@@ -54,6 +54,8 @@ impl<R: Read> Source for ReadSource<R> {
     ghost left = { λ s. option_and_then R.remaining s.reader };
 
     ghost faults = { λ s. s.faults };
+
+    ghost may_be_pulled = { λ _. true };
 
     fn pull(&mut self, buf: &mut [u8]) -> Result<usize, Failed>
         ensures bound { ReadsAtMost result buf.new }

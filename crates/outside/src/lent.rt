@@ -1,5 +1,8 @@
 //! A source over bytes that are lent.
-ghost use Rattle.std.specs.Prelude.{◌≡◌, Some};
+ghost use Rattle.std.specs.Prelude.{◌≡◌, Some, true, ◌<◌, IsTrue, length, min, drop, Ok, IfOk};
+ghost use Rattle.std.specs.Io.{ReadsAtMost};
+ghost use Rattle.std.specs.Io.KnownBytes.{ReadConsumes};
+ghost use Rattle.outside.specs.Source.{HasCause};
 
 use super::errors::Failed;
 use super::serve::serve;
@@ -38,7 +41,16 @@ impl<'a> Source for LentSource<'a> {
 
     ghost faults = { λ _. 0 };
 
-    fn pull(&mut self, buf: &mut [u8]) -> Result<usize, Failed> {
+    ghost may_be_pulled = { λ _. true };
+
+    fn pull(&mut self, buf: &mut [u8]) -> Result<usize, Failed>
+        ensures bound { ReadsAtMost result buf.new }
+        ensures bytes { ReadConsumes (Some self.old) (Some self.new) result buf.new }
+        ensures cause { HasCause 0 0 result }
+        ensures more { IfOk result (λ n. 0 < n → IsTrue true) }
+        ensures count { result ≡ Ok (min (length self.old) (length buf.old)) }
+        ensures behind { IfOk result (λ n. drop n buf.new ≡ drop n buf.old) }
+    {
         let count = serve(self.bytes.split_at(self.given).1, usize::MAX, buf);
         self.given += count;
         Ok(count)

@@ -1,5 +1,5 @@
 //! A source and a sink in memory whose calls of given numbers fail.
-ghost use Rattle.std.specs.Prelude.{◌≡◌, ◌+◌, ◌-◌, ◌^◌, ◌<◌, ◌≤◌, ◌↔◌, Some, [], length, min, drop, IfOk, IfErr, OnErr, IsErr, IsErrOf, MatchResult, Contains, IsTrue, MatchBool};
+ghost use Rattle.std.specs.Prelude.{◌≡◌, ◌+◌, ◌-◌, ◌^◌, ◌<◌, ◌≤◌, ◌↔◌, Some, [], length, min, drop, IfOk, IfErr, OnErr, IsErr, IsErrOf, MatchResult, Contains, IsTrue, MatchBool, true};
 ghost use Rattle.std.specs.Io.{ReadsAtMost};
 ghost use Rattle.std.specs.Io.KnownBytes.{ReadConsumes};
 ghost use Rattle.outside.specs.Source.{HasCause};
@@ -106,6 +106,8 @@ impl Source for MemSource {
     ghost left = { λ s. Some s.left };
 
     ghost faults = { λ s. s.faults };
+
+    ghost may_be_pulled = { λ _. true };
 
     fn pull(&mut self, buf: &mut [u8]) -> Result<usize, Failed>
         ensures bound { ReadsAtMost result buf.new }

@@ -1,5 +1,5 @@
 //! A source and a sink in memory that never fail.
-ghost use Rattle.std.specs.Prelude.{◌≡◌, ◌+◌, ◌-◌, ◌<◌, ◌≤◌, Some, [], length, min, drop, Ok, IfOk, IsOk, IsErrOf, OnErr};
+ghost use Rattle.std.specs.Prelude.{◌≡◌, ◌+◌, ◌-◌, ◌<◌, ◌≤◌, Some, [], length, min, drop, Ok, IfOk, IsOk, IsErrOf, OnErr, true};
 ghost use Rattle.std.specs.Io.{ReadsAtMost};
 ghost use Rattle.std.specs.Io.KnownBytes.{ReadConsumes};
 ghost use Rattle.outside.specs.Source.{HasCause};
@@ -49,6 +49,8 @@ impl Source for SteadySource {
     ghost left = { λ s. Some s.left };
 
     ghost faults = { λ _. 0 };
+
+    ghost may_be_pulled = { λ _. true };
 
     fn pull(&mut self, buf: &mut [u8]) -> Result<usize, Failed>
         ensures bound { ReadsAtMost result buf.new }

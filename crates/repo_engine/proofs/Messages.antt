@@ -1,5 +1,5 @@
 -- The steps of the commands of one message.
-use Rattle.std.proofs.Common.{◌≡◌, ◌≢◌, inl, inr, ℕ, Bool, List, [], Option, Some, Result, Ok, Err, codes, refl, subst}
+use Rattle.std.proofs.Common.{◌≡◌, ◌≢◌, inl, inr, ℕ, Bool, List, [], Option, Some, Result, Ok, Err, codes, refl, ap, subst}
 use Rattle.std.specs.Prelude.{IfErr, IfSome}
 use Rattle.std.proofs.KnownBytes.{Appends-nil, Keeps-refl}
 use Rattle.outside.specs.declared.errors.SinkError.{SinkError}
@@ -52,6 +52,10 @@ both_on second ended u v other (both codes first next) = both codes first (read_
 pub first_quiet : {S T : Type 0} (second : Bool) (u : Use S) (v : Use T) → AreRead second Whole u v → u.faults u.new ≡ u.faults u.old
 first_quiet second u v (one first same none) = first.quiet (λ e. absurd (cc))
 first_quiet second u v (both codes first next) = first.quiet (λ e. absurd (cc))
+
+pub second_quiet : {S T : Type 0} (second : Bool) (u : Use S) (v : Use T) → AreRead second Whole u v → v.faults v.new ≡ v.faults v.old
+second_quiet second u v (one first same none) = ap v.faults same
+second_quiet second u v (both codes first next) = next.quiet (λ e. absurd (cc))
 
 pub stop_not_whole : (s : Stop) → IsOfInput s → stop_ended s ≡ Whole → ⊥
 stop_not_whole (Refused r) input e = absurd (cc)

@@ -10,10 +10,11 @@ use Rattle.data_types.specs.Value.{Value}
 use Rattle.repo_loader.specs.LoadErrors.{PullsForFault as LoadPulls, ShowsNoLoadFault}
 use Rattle.repo_loader.specs.declared.fault.LoadError.{LoadError}
 use Rattle.repo_loader.specs.declared.fault.LoadError.TheVariants as load_error
-use Rattle.code_sets.specs.CodesErrors.{AreCodesPulled, PullsForRefusal}
+use Rattle.code_sets.specs.CodesErrors.{AreCodesPulled, AreFewBytes, PullsForRefusal, RefusesJoin}
 use Rattle.code_sets.specs.declared.errors.CodesError.{CodesError}
 use Rattle.code_sets.specs.declared.errors.CodesError.TheVariants as codes_error
-use Rattle.repo_objects.specs.Repository.{Contents}
+use Rattle.code_sets.specs.declared.record.CodeRecord.{CodeRecord}
+use Rattle.repo_objects.specs.Repository.{Contents, DictionaryEntry}
 use Rattle.message_model.specs.Tables.{Tables}
 use Rattle.message_model.specs.declared.fault.Fault.{Fault}
 use Rattle.transcoder.specs.Checked.{HasXmlFault, HasDerFault}
@@ -46,14 +47,14 @@ load_stops repo repo' load_error.Memory p = tt
 
 pub codes_stops : (codes codes' : Option (List ℕ)) (e : CodesError) → PullsForRefusal codes codes' e → StopsAtCodes codes codes' (codes_stop e)
 codes_stops codes codes' (codes_error.Refused rule number) p = p
-codes_stops codes codes' codes_error.ReadFault p = tt
+codes_stops codes codes' codes_error.ReadFault p = p
 codes_stops codes codes' codes_error.Memory p = tt
 
 -- codes that were read and are refused behind that
-pub read_codes_stop : (codes codes' : Option (List ℕ)) → AreCodesPulled codes codes' → (e : CodesError) → StopsAtCodes codes codes' (codes_stop e)
-read_codes_stop codes codes' p (codes_error.Refused rule number) = p
-read_codes_stop codes codes' p codes_error.ReadFault = tt
-read_codes_stop codes codes' p codes_error.Memory = tt
+pub read_codes_stop : (codes codes' : Option (List ℕ)) → AreCodesPulled codes codes' → (lists : List CodeRecord) (entries : List DictionaryEntry) (e : CodesError) → RefusesJoin lists entries e → StopsAtCodes codes codes' (codes_stop e)
+read_codes_stop codes codes' p lists entries (codes_error.Refused rule number) h = p
+read_codes_stop codes codes' p lists entries codes_error.ReadFault h = absurd h
+read_codes_stop codes codes' p lists entries codes_error.Memory h = tt
 
 module _ {R C : Type 0} (repo : Use R) (codes : Use C) where
   -- the repository stops it, before the codes are touched
@@ -63,7 +64,7 @@ module _ {R C : Type 0} (repo : Use R) (codes : Use C) where
   stops_at_repository same (Refused (Codes rule number)) p = absurd p
   stops_at_repository same (Refused (Message rule object)) p = absurd p
   stops_at_repository same (Refused (Instance fault)) p = absurd p
-  stops_at_repository same ReadFault p = λ rose. p
+  stops_at_repository same ReadFault p = (λ rose. p, not_failed codes (ap codes.faults same) AreFewBytes)
   stops_at_repository same WriteFault p = tt
   stops_at_repository same Memory p = tt
 
@@ -73,7 +74,7 @@ module _ {R C : Type 0} (repo : Use R) (codes : Use C) where
   stops_at_codes quiet (Refused (Codes rule number)) p = p
   stops_at_codes quiet (Refused (Message rule object)) p = absurd p
   stops_at_codes quiet (Refused (Instance fault)) p = absurd p
-  stops_at_codes quiet ReadFault p = not_failed repo quiet ShowsNoLoadFault
+  stops_at_codes quiet ReadFault p = (not_failed repo quiet ShowsNoLoadFault, λ rose. p)
   stops_at_codes quiet WriteFault p = tt
   stops_at_codes quiet Memory p = tt
 
@@ -118,15 +119,15 @@ module _ {R C : Type 0} (repo : Use R) (codes : Use C) where
 
 module _ {I : Type 0} (Answers : List ℕ → Verdict → Type 0) (inst : Use I) where
   -- no files are refused where a command of a compiled message stops
-  pub no_files : {R C : Type 0} (repo : Use R) (codes : Use C) → repo.faults repo.new ≡ repo.faults repo.old → (stop : Stop) → StopsAtInstance Answers inst stop → StopsFilesSoon repo codes inst stop
-  no_files repo codes quiet (Refused Words) p = tt
-  no_files repo codes quiet (Refused (Repository fault)) p = absurd p.1
-  no_files repo codes quiet (Refused (Codes rule number)) p = absurd p.1
-  no_files repo codes quiet (Refused (Message rule object)) p = absurd p.1
-  no_files repo codes quiet (Refused (Instance fault)) p = tt
-  no_files repo codes quiet ReadFault p = not_failed repo quiet ShowsNoLoadFault
-  no_files repo codes quiet WriteFault p = tt
-  no_files repo codes quiet Memory p = tt
+  pub no_files : {R C : Type 0} (repo : Use R) (codes : Use C) → repo.faults repo.new ≡ repo.faults repo.old → codes.faults codes.new ≡ codes.faults codes.old → (stop : Stop) → StopsAtInstance Answers inst stop → StopsFilesSoon repo codes inst stop
+  no_files repo codes quiet quiet_codes (Refused Words) p = tt
+  no_files repo codes quiet quiet_codes (Refused (Repository fault)) p = absurd p.1
+  no_files repo codes quiet quiet_codes (Refused (Codes rule number)) p = absurd p.1
+  no_files repo codes quiet quiet_codes (Refused (Message rule object)) p = absurd p.1
+  no_files repo codes quiet quiet_codes (Refused (Instance fault)) p = tt
+  no_files repo codes quiet quiet_codes ReadFault p = (not_failed repo quiet ShowsNoLoadFault, not_failed codes quiet_codes AreFewBytes)
+  no_files repo codes quiet quiet_codes WriteFault p = tt
+  no_files repo codes quiet quiet_codes Memory p = tt
 
   instance_soon : (Others : List ℕ → Verdict → Type 0) → ((i : List ℕ) (v : Verdict) → Others i v → Answers i v) → StopsSoon (HasNoFaultYet Answers) (inst.left inst.old) (inst.left inst.new) → StopsSoon (HasNoFaultYet Others) (inst.left inst.old) (inst.left inst.new)
   instance_soon Others from p = record { before = p.before; last = p.last; pulled = p.pulled; short = p.short; shows_none = λ v o. p.shows_none v (from p.before v o) }

@@ -5,7 +5,7 @@ use Rattle.lexical_core.specs.declared.rule.Rule.{Rule}
 use Rattle.lexical_core.specs.declared.rule.Rule.TheVariants.{Truncated, DerTruncated}
 use Rattle.outside.specs.Pulls.{StopsSoon}
 use Rattle.repo_loader.specs.LoadErrors.{ShowsNoLoadFault}
-use Rattle.code_sets.specs.CodesErrors.{AreCodesPulled}
+use Rattle.code_sets.specs.CodesErrors.{AreCodesPulled, AreFewBytes}
 use Rattle.repo_engine.specs.Sources.{Use, Untouched}
 use Rattle.repo_engine.specs.Verdict.{Verdict, accepted, refused}
 use Rattle.repo_engine.specs.declared.refusal.Refusal.TheVariants.{Repository, Codes, Message, Instance}
@@ -18,12 +18,12 @@ HadShownNone ShowsNone u = u.faults u.old < u.faults u.new → (taken : List ℕ
 
 -- Where a repository is refused it was pulled no further than one pull behind bytes that show no fault yet, and what is read behind it is not touched. Where
 -- its codes are refused, they were read to their end or to one byte beyond their limit, and the instance is not touched; nor is it where a message is
--- refused. A repository that failed showed no fault before.
+-- refused. A repository that failed showed no fault before, and codes that failed gave no more than their limit.
 abbrev pub StopsFilesSoon : {R C I : Type 0} → Use R → Use C → Use I → Stop → Type 0
 StopsFilesSoon repo codes inst (Refused (Repository fault)) = StopsSoon ShowsNoLoadFault (repo.left repo.old) (repo.left repo.new) × Untouched codes × Untouched inst
 StopsFilesSoon repo codes inst (Refused (Codes rule number)) = AreCodesPulled (codes.left codes.old) (codes.left codes.new) × Untouched inst
 StopsFilesSoon repo codes inst (Refused (Message rule object)) = Untouched inst
-StopsFilesSoon repo codes inst ReadFault = HadShownNone ShowsNoLoadFault repo
+StopsFilesSoon repo codes inst ReadFault = HadShownNone ShowsNoLoadFault repo × HadShownNone AreFewBytes codes
 StopsFilesSoon repo codes inst stop = Unit {0}
 
 -- the rule of XML that ends too early, and that of DER

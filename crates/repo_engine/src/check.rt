@@ -1,5 +1,5 @@
 //! The check of an instance.
-ghost use Rattle.std.specs.Prelude.{◌≡◌, ◌≢◌, ℕ, List, Some, Err, IfErr};
+ghost use Rattle.std.specs.Prelude.{◌≡◌, ◌≢◌, ℕ, List, Some, Err, IfErr, IsTrue};
 ghost use Rattle.repo_engine.specs.Answer.{FromDer, FromXml, IsFine};
 ghost use Rattle.repo_engine.specs.inner.Arms.{StopsAtInstance, check_stop};
 ghost use Rattle.repo_engine.specs.Run.{GoesOut, TellsVerdict};
@@ -18,6 +18,7 @@ pub fn check<I: Source, O: Sink>(
     inst: &mut I,
     out: &mut O,
 ) -> Result<(), Stop>
+    requires { IsTrue (I.may_be_pulled inst.old) }
     ensures no_words { result ≢ Err (Stop.Refused Refusal.Words) }
     ensures source { IsSourceRead (source_ended_of result) (of_source I.left I.faults inst.old inst.new) }
     ensures pulled { IfErr result (λ stop. StopsAtInstance (λ i. FromXml model.now i IsFine) (of_source I.left I.faults inst.old inst.new) stop) }
@@ -37,6 +38,7 @@ pub fn check_in_der<I: Source, O: Sink>(
     inst: &mut I,
     out: &mut O,
 ) -> Result<(), Stop>
+    requires { IsTrue (I.may_be_pulled inst.old) }
     ensures no_words { result ≢ Err (Stop.Refused Refusal.Words) }
     ensures source { IsSourceRead (source_ended_of result) (of_source I.left I.faults inst.old inst.new) }
     ensures pulled { IfErr result (λ stop. StopsAtInstance (λ i. FromDer model.now i IsFine) (of_source I.left I.faults inst.old inst.new) stop) }

@@ -1,4 +1,5 @@
 //! The top call: one command, from words and bytes to a status and what is written.
+ghost use Rattle.std.specs.Prelude.{IsTrue};
 ghost use Rattle.repo_engine.specs.Command.{texts};
 ghost use Rattle.repo_engine.specs.Run.{End, Notes, Performs};
 ghost use Rattle.repo_engine.specs.ModuleLaw.{ModuleAdmitsTheInstances, ModuleAdmitsWhatIsAccepted};
@@ -16,7 +17,7 @@ use std::alloc::Global;
 /// once the input was accepted, and notes one line on any answer but `Done`.
 ///
 /// `words` is the command line without the program's name. `codes` is not pulled where the third
-/// word is `-`.
+/// word is `-`. No source is pulled behind its end or behind a failure.
 pub fn run<R: Source, C: Source, I: Source, O: Sink, N: Sink>(
     alloc: Global,
     words: &Vec<String>,
@@ -26,6 +27,9 @@ pub fn run<R: Source, C: Source, I: Source, O: Sink, N: Sink>(
     out: &mut O,
     notes: &mut N,
 ) -> Status
+    requires repo_unended { IsTrue (R.may_be_pulled repo.old) }
+    requires codes_unended { IsTrue (C.may_be_pulled codes.old) }
+    requires inst_unended { IsTrue (I.may_be_pulled inst.old) }
     // There is an end that the command comes to, of which both hold.
     ensures answer { (end : End)
         × Performs (texts words.now.items)

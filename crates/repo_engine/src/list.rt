@@ -1,5 +1,5 @@
 //! The list of a repository's messages.
-ghost use Rattle.std.specs.Prelude.{◌≡◌, ◌≢◌, ◌⊎◌, ℕ, List, Some, Err, IfErr};
+ghost use Rattle.std.specs.Prelude.{◌≡◌, ◌≢◌, ◌⊎◌, ℕ, List, Some, Err, IfErr, IsTrue};
 ghost use Rattle.outside.specs.Pushes.{Pushes};
 ghost use Rattle.repo_objects.specs.Repository.{Contents};
 ghost use Rattle.repo_loader.specs.Loaded.{Spells};
@@ -24,6 +24,8 @@ pub fn list<R: Source, C: Source, O: Sink>(
     codes: &mut C,
     out: &mut O,
 ) -> Result<(), Stop>
+    requires repo_unended { IsTrue (R.may_be_pulled repo.old) }
+    requires codes_unended { IsTrue (C.may_be_pulled codes.old) }
     ensures no_words { result ≢ Err (Stop.Refused Refusal.Words) }
     ensures sources { AreRead (hands_in codes_word.now) (source_ended_of result)
         (of_source R.left R.faults repo.old repo.new) (of_source C.left C.faults codes.old codes.new) }

@@ -1,5 +1,5 @@
 //! The commands of one message.
-ghost use Rattle.std.specs.Prelude.{◌≡◌, ◌≢◌, ◌⊎◌, ℕ, List, true, Some, Err, IfOk, IfErr};
+ghost use Rattle.std.specs.Prelude.{◌≡◌, ◌≢◌, ◌⊎◌, ℕ, List, true, Some, Err, IfOk, IfErr, IsTrue};
 ghost use Rattle.repo_objects.specs.Repository.{Contents};
 ghost use Rattle.repo_loader.specs.Loaded.{Spells};
 ghost use Rattle.message_model.specs.Tables.{Tables};
@@ -36,6 +36,9 @@ pub fn message<R: Source, C: Source, I: Source, O: Sink>(
     inst: &mut I,
     out: &mut O,
 ) -> Result<(), Stop>
+    requires repo_unended { IsTrue (R.may_be_pulled repo.old) }
+    requires codes_unended { IsTrue (C.may_be_pulled codes.old) }
+    requires inst_unended { IsTrue (I.may_be_pulled inst.old) }
     ensures no_words { result ≢ Err (Stop.Refused Refusal.Words) }
     ensures sources { AreReadInTurn (hands_in codes_word.now) (reads_instance verb) (source_ended_of result)
         (of_source R.left R.faults repo.old repo.new) (of_source C.left C.faults codes.old codes.new) (of_source I.left I.faults inst.old inst.new) }
@@ -65,6 +68,8 @@ fn read_message<R: Source, C: Source>(
     repo: &mut R,
     codes: &mut C,
 ) -> Result<Model, Stop>
+    requires repo_unended { IsTrue (R.may_be_pulled repo.old) }
+    requires codes_unended { IsTrue (C.may_be_pulled codes.old) }
     ensures gives { (r c : List ℕ) → FilesHaveLeft codes_word.now (R.left repo.old) (C.left codes.old) r c →
         IfOk result (λ model. GivesMessage codes_word.now id.now r c model) }
     ensures refuses { (r c : List ℕ) → FilesHaveLeft codes_word.now (R.left repo.old) (C.left codes.old) r c →
@@ -111,6 +116,7 @@ fn on_model<I: Source, O: Sink>(
     inst: &mut I,
     out: &mut O,
 ) -> Result<(), Stop>
+    requires { IsTrue (I.may_be_pulled inst.old) }
     ensures no_words { result ≢ Err (Stop.Refused Refusal.Words) }
     ensures source { IsReadAs (reads_instance verb) (source_ended_of result) (of_source I.left I.faults inst.old inst.new) }
     ensures pulled { IfErr result (λ stop. StopsAtInstance (λ i. OfVerb verb i model.now) (of_source I.left I.faults inst.old inst.new) stop) }

@@ -1,5 +1,5 @@
 //! What a command does before anything is noted.
-ghost use Rattle.std.specs.Prelude.{Err};
+ghost use Rattle.std.specs.Prelude.{Err, IsTrue};
 ghost use Rattle.repo_engine.specs.Command.{texts};
 ghost use Rattle.repo_engine.specs.inner.Commands.{IsBoundedDrill, command_view};
 ghost use Rattle.repo_engine.specs.Run.{Performs};
@@ -24,6 +24,9 @@ pub fn perform<R: Source, C: Source, I: Source, O: Sink>(
     inst: &mut I,
     out: &mut O,
 ) -> Result<(), Stop>
+    requires repo_unended { IsTrue (R.may_be_pulled repo.old) }
+    requires codes_unended { IsTrue (C.may_be_pulled codes.old) }
+    requires inst_unended { IsTrue (I.may_be_pulled inst.old) }
     ensures { Performs (texts words.now.items)
         (of_source R.left R.faults repo.old repo.new) (of_source C.left C.faults codes.old codes.new) (of_source I.left I.faults inst.old inst.new)
         O.held O.faults out.old out.new result }
@@ -43,7 +46,10 @@ fn carry<R: Source, C: Source, I: Source, O: Sink>(
     inst: &mut I,
     out: &mut O,
 ) -> Result<(), Stop>
-    requires { IsBoundedDrill command }
+    requires repo_unended { IsTrue (R.may_be_pulled repo.old) }
+    requires codes_unended { IsTrue (C.may_be_pulled codes.old) }
+    requires inst_unended { IsTrue (I.may_be_pulled inst.old) }
+    requires bounded { IsBoundedDrill command }
     ensures { Carries (command_view command.entry)
         (of_source R.left R.faults repo.old repo.new) (of_source C.left C.faults codes.old codes.new) (of_source I.left I.faults inst.old inst.new)
         O.held O.faults out.old out.new result }

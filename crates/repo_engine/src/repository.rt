@@ -1,5 +1,5 @@
 //! A repository and its external codes, read from their sources.
-ghost use Rattle.std.specs.Prelude.{◌≡◌, ◌⊎◌, List, ℕ, true, Option, Some, IfOk, IfErr};
+ghost use Rattle.std.specs.Prelude.{◌≡◌, ◌⊎◌, List, ℕ, true, Option, Some, IfOk, IfErr, IsTrue};
 ghost use Rattle.repo_objects.specs.Repository.{Contents};
 ghost use Rattle.repo_loader.specs.Loaded.{Spells};
 ghost use Rattle.code_sets.specs.Codes.{Joins};
@@ -24,6 +24,8 @@ pub fn read_repository<R: Source, C: Source>(
     repo: &mut R,
     codes: &mut C,
 ) -> Result<Repository, Stop>
+    requires repo_unended { IsTrue (R.may_be_pulled repo.old) }
+    requires codes_unended { IsTrue (C.may_be_pulled codes.old) }
     ensures gives { (r c : List ℕ) → FilesHaveLeft codes_word.now (R.left repo.old) (C.left codes.old) r c →
         IfOk result (λ joined. GivesRepository codes_word.now r c joined) }
     ensures refuses { (r c : List ℕ) → FilesHaveLeft codes_word.now (R.left repo.old) (C.left codes.old) r c →
@@ -47,6 +49,7 @@ fn with_codes<C: Source>(
     own: Repository,
     codes: &mut C,
 ) -> Result<Repository, Stop>
+    requires { IsTrue (C.may_be_pulled codes.old) }
     ensures gives { (c : List ℕ) → (hands_in codes_word.now ≡ true → C.left codes.old ≡ Some c) →
         IfOk result (λ joined. GivesJoined codes_word.now own c joined) }
     ensures refuses { (c : List ℕ) → (hands_in codes_word.now ≡ true → C.left codes.old ≡ Some c) →
@@ -63,6 +66,7 @@ fn with_codes<C: Source>(
 
 /// The repository that the source has left.
 fn load_file<R: Source>(alloc: Global, repo: &mut R) -> Result<Repository, Stop>
+    requires { IsTrue (R.may_be_pulled repo.old) }
     ensures gives { (r : List ℕ) → R.left repo.old ≡ Some r → IfOk result (λ own. Spells r own) }
     ensures refuses { (r : List ℕ) → R.left repo.old ≡ Some r → IfErr result (λ stop. StopsBy (TellsFileFault r) stop) }
     ensures input { IfErr result (λ stop. IsOfInput stop) }
@@ -88,6 +92,7 @@ fn stop_of_load(error: LoadError) -> Stop
 
 /// The repository with the codes that the source has left.
 fn join_codes<C: Source>(alloc: Global, own: Repository, codes: &mut C) -> Result<Repository, Stop>
+    requires { IsTrue (C.may_be_pulled codes.old) }
     ensures gives { (c : List ℕ) → C.left codes.old ≡ Some c → IfOk result (λ joined. Joins own c joined) }
     ensures refuses { (c : List ℕ) → C.left codes.old ≡ Some c → IfErr result (λ stop. StopsBy (IsCodesRefusal own c) stop) }
     ensures input { IfErr result (λ stop. IsOfInput stop) }
@@ -102,6 +107,7 @@ fn join_codes<C: Source>(alloc: Global, own: Repository, codes: &mut C) -> Resul
 
 /// The codes that the source has left.
 fn load_codes<C: Source>(alloc: Global, codes: &mut C) -> Result<CodeLists, Stop>
+    requires { IsTrue (C.may_be_pulled codes.old) }
     ensures gives { (c : List ℕ) → C.left codes.old ≡ Some c → IfOk result (λ lists. IsCodesText c lists) }
     ensures codes { IfOk result (λ lists. AreCodes lists) }
     ensures read { IfOk result (λ _. AreCodesPulled (C.left codes.old) (C.left codes.new)) }

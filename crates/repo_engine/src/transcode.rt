@@ -1,5 +1,5 @@
 //! Instances in one form, written in another.
-ghost use Rattle.std.specs.Prelude.{◌≡◌, ◌≢◌, ℕ, List, Some, Err, IfErr};
+ghost use Rattle.std.specs.Prelude.{◌≡◌, ◌≢◌, ℕ, List, Some, Err, IfErr, IsTrue};
 ghost use Rattle.repo_engine.specs.Answer.{FromDer, FromXml, GivesDer, GivesXml};
 ghost use Rattle.repo_engine.specs.inner.Arms.{StopsAtInstance, trans_end};
 ghost use Rattle.repo_engine.specs.Run.{GoesOut, TellsVerdict};
@@ -18,6 +18,7 @@ pub fn canonize<I: Source, O: Sink>(
     inst: &mut I,
     out: &mut O,
 ) -> Result<(), Stop>
+    requires { IsTrue (I.may_be_pulled inst.old) }
     ensures no_words { result ≢ Err (Stop.Refused Refusal.Words) }
     ensures source { IsSourceRead (source_ended_of result) (of_source I.left I.faults inst.old inst.new) }
     ensures pulled { IfErr result (λ stop. StopsAtInstance (λ i. FromXml model.now i (GivesXml model.now)) (of_source I.left I.faults inst.old inst.new) stop) }
@@ -34,6 +35,7 @@ pub fn to_der<I: Source, O: Sink>(
     inst: &mut I,
     out: &mut O,
 ) -> Result<(), Stop>
+    requires { IsTrue (I.may_be_pulled inst.old) }
     ensures no_words { result ≢ Err (Stop.Refused Refusal.Words) }
     ensures source { IsSourceRead (source_ended_of result) (of_source I.left I.faults inst.old inst.new) }
     ensures pulled { IfErr result (λ stop. StopsAtInstance (λ i. FromXml model.now i (GivesDer model.now)) (of_source I.left I.faults inst.old inst.new) stop) }
@@ -50,6 +52,7 @@ pub fn from_der<I: Source, O: Sink>(
     inst: &mut I,
     out: &mut O,
 ) -> Result<(), Stop>
+    requires { IsTrue (I.may_be_pulled inst.old) }
     ensures no_words { result ≢ Err (Stop.Refused Refusal.Words) }
     ensures source { IsSourceRead (source_ended_of result) (of_source I.left I.faults inst.old inst.new) }
     ensures pulled { IfErr result (λ stop. StopsAtInstance (λ i. FromDer model.now i (GivesXml model.now)) (of_source I.left I.faults inst.old inst.new) stop) }

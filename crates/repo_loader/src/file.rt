@@ -1,5 +1,5 @@
 //! A repository file read from a source.
-ghost use Rattle.std.specs.Prelude.{◌≡◌, ◌<◌, ◌≤◌, [], IfOk, IfErr, IfSome, OnOk, IsErrOf, length};
+ghost use Rattle.std.specs.Prelude.{◌≡◌, ◌<◌, ◌≤◌, [], IfOk, IfErr, IfSome, OnOk, IsErrOf, IsTrue, length};
 ghost use Rattle.std.specs.Io.KnownBytes.{IsAtEnd};
 ghost use Rattle.outside.specs.Pulls.{pull_limit};
 ghost use Rattle.outside.specs.Source.{Rose};
@@ -37,6 +37,7 @@ fn read_to_end<R: Source>(
     requires some { 0 < length piece.old }
     requires few { length piece.old ≤ pull_limit }
     requires read { HasReadFile progress.old [] }
+    requires unended { IsTrue (R.may_be_pulled source.old) }
     ensures ok { OnOk result (HasAll (R.left source.old) progress.new) }
     ensures whole { OnOk result (IsAtEnd (R.left source.new)) }
     ensures err { IfErr result (λ e. IfSome (R.left source.old) (λ bytes. RefusesFile bytes e)) }
@@ -79,6 +80,7 @@ fn load_into<R: Source>(
     requires some { 0 < length piece.old }
     requires few { length piece.old ≤ pull_limit }
     requires read { HasReadFile progress.old [] }
+    requires unended { IsTrue (R.may_be_pulled source.old) }
     ensures ok { IfOk result (λ r. IfSome (R.left source.old) (λ bytes. Spells bytes r)) }
     ensures whole { OnOk result (IsAtEnd (R.left source.new)) }
     ensures err { IfErr result (λ e. IfSome (R.left source.old) (λ bytes. RefusesFile bytes e)) }
@@ -97,6 +99,7 @@ fn load_into<R: Source>(
 /// The repository that the bytes spell which the source has left. They are read to their end, or to the
 /// piece that shows a fault or in which the first byte beyond the limit stands. A failed pull is not tried again.
 pub fn load<R: Source>(alloc: Global, source: &mut R) -> Result<Repository, LoadError>
+    requires { IsTrue (R.may_be_pulled source.old) }
     ensures ok { IfOk result (λ r. IfSome (R.left source.old) (λ bytes. Spells bytes r)) }
     ensures whole { OnOk result (IsAtEnd (R.left source.new)) }
     ensures err { IfErr result (λ e. IfSome (R.left source.old) (λ bytes. RefusesFile bytes e)) }

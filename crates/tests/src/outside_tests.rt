@@ -1,4 +1,6 @@
 //! What no contract says: readers and writers that do little at a time and fail in mid-stream.
+ghost use Rattle.std.specs.Prelude.{IsTrue};
+
 use outside::{
     Failed, MemSink, MemSource, ReadError, ReadSource, Sink, SinkError, Source, SteadySink,
     SteadySource, WriteSink, read_all,
@@ -57,15 +59,21 @@ impl Write for ShortWriter {
 }
 
 // Pulls in pieces of up to four bytes until the end or the first failure.
-fn pull_all<S: Source>(alloc: Global, source: &mut S) -> Result<(Vec<u8>, Option<Failed>), Fail> {
+fn pull_all<S: Source>(alloc: Global, source: &mut S) -> Result<(Vec<u8>, Option<Failed>), Fail>
+    requires { IsTrue (S.may_be_pulled source.old) }
+{
     let mut got = Vec::new(alloc);
-    for _ in 0..100 {
+    for call in 0..100 {
+        let _ = call;
         let mut buf = [0; 4];
-        match source.pull(&mut buf) {
-            Ok(0) => break,
-            Ok(count) => got.extend_from_slice(&buf[..count])?,
+        let count = match source.pull(&mut buf) {
+            Ok(count) => count,
             Err(failed) => return Ok((got, Some(failed))),
+        };
+        if count == 0 {
+            break;
         }
+        got.extend_from_slice(&buf[..count])?;
     }
     Ok((got, None))
 }
@@ -76,7 +84,9 @@ fn gives<S: Source>(
     source: &mut S,
     want: &[u8],
     fault: Option<Failed>,
-) -> Result<bool, Fail> {
+) -> Result<bool, Fail>
+    requires { IsTrue (S.may_be_pulled source.old) }
+{
     let (got, failed) = pull_all(alloc, source)?;
     Ok(got.as_slice() == want && failed == fault)
 }

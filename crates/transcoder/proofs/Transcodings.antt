@@ -16,7 +16,8 @@ use Rattle.transcoder.specs.declared.trans_error.TransError.TheVariants as trans
 use Rattle.transcoder.specs.Checked.{HoldsAs}
 use Rattle.transcoder.specs.Limited.{most_bytes}
 use Rattle.transcoder.specs.Pulls.{PullsToFault, PullsToTransFault}
-use Rattle.transcoder.specs.TransErrors.{trans_error, written_end}
+use Rattle.transcoder.specs.CheckErrors.{IsOfSome}
+use Rattle.transcoder.specs.TransErrors.{IsTransFaultOfSome, trans_error, written_end}
 use Rattle.transcoder.specs.Transcoding.{IsTranscoded, IsWrittenOut, pushed}
 
 -- a failed source is told as such
@@ -36,14 +37,28 @@ module _ (HasFault : List ℕ → Fault → Type 0) (cut_rule : Rule) (old new :
       by check.ReadFault h = h
       by check.Memory h = tt
 
-  -- a writer tells no fault of the bytes
-  written_pulls : (push : Result (Unit {0}) WriteError) (r : Result (Unit {0}) TransError) → r ≡ written_end push → IfErr r (λ e. PullsToTransFault HasFault cut_rule old new e)
-  written_pulls push r is = subst (λ (v : Result (Unit {0}) TransError). IfErr v (λ e. PullsToTransFault HasFault cut_rule old new e)) (sym is) (by push)
-    where
-      by : (push : Result (Unit {0}) WriteError) → IfErr (written_end push) (λ e. PullsToTransFault HasFault cut_rule old new e)
-      by (Ok x) = tt
-      by (Err written.WriteFault) = tt
-      by (Err written.Memory) = tt
+-- the fault is one of some bytes as the reading's is
+pub told_placed : (HasFault : List ℕ → Fault → Type 0) (e : CheckError) (told : TransError) → told ≡ trans_error e → IsOfSome HasFault e → IsTransFaultOfSome HasFault told
+told_placed HasFault e told is h = subst (IsTransFaultOfSome HasFault) (sym is) (by e h)
+  where
+    by : (e : CheckError) → IsOfSome HasFault e → IsTransFaultOfSome HasFault (trans_error e)
+    by (check.Refused fault) h = h
+    by check.ReadFault h = tt
+    by check.Memory h = tt
+
+-- what is told is no failed source
+pub no_source_failed : (r : Result (Unit {0}) TransError) → IfErr r (λ e. e ≡ trans.ReadFault → ⊥) → r ≡ Err trans.ReadFault → ⊥
+no_source_failed (Ok x) h at = absurd (cc)
+no_source_failed (Err e) h at = h (cc)
+
+-- what a writer may tell
+written_tells : (Tells : TransError → Type 0) → Tells trans.WriteFault → Tells trans.Memory → (push : Result (Unit {0}) WriteError) (r : Result (Unit {0}) TransError) → r ≡ written_end push → IfErr r Tells
+written_tells Tells fault memory push r is = subst (λ (v : Result (Unit {0}) TransError). IfErr v Tells) (sym is) (by push)
+  where
+    by : (push : Result (Unit {0}) WriteError) → IfErr (written_end push) Tells
+    by (Ok x) = tt
+    by (Err written.WriteFault) = fault
+    by (Err written.Memory) = memory
 
 module _ (Spells : List ℕ → Value → Type 0) (T : Tables) (admits : (bytes : List ℕ) (v : Value) → Spells bytes v → AdmitsAs (types_of T) (types_of T 0) v) (pieces : List Piece) where
   -- an instance that was read may be written
@@ -60,10 +75,10 @@ module _ (Spells : List ℕ → Value → Type 0) (T : Tables) (admits : (bytes 
   transcoded held faults room HasFault IsOut (Some bytes) left' old new result ((v, s, is), short) given end writes =
       let w = writes v (admits bytes v s) is in pushed w.text w.push w.ends (v, s, short, w.is_out) end w.pushes
 
-  -- where an instance was read, no fault is told
-  pub pulls_whole : {O : Type 0} (held : O → Option (List ℕ)) (faults room : O → ℕ) (HasFault : List ℕ → Fault → Type 0) (cut_rule : Rule) (IsOut : Value → List ℕ → Type 0) (left left' : Option (List ℕ)) (old new : O)
+  -- where an instance was read, nothing is told but what a writer may tell
+  pub tells_whole : {O : Type 0} (held : O → Option (List ℕ)) (faults room : O → ℕ) (Tells : TransError → Type 0) → Tells trans.WriteFault → Tells trans.Memory → (IsOut : Value → List ℕ → Type 0) (old new : O)
       (result : Result (Unit {0}) TransError) → ((bytes : List ℕ) × HoldsAs Spells T bytes pieces)
       → ((v : Value) → AdmitsAs (types_of T) (types_of T 0) v → pieces ≡ pieces_of fragment T v → IsWrittenOut held faults room (IsOut v) old new result)
-      → IfErr result (λ e. PullsToTransFault HasFault cut_rule left left' e)
-  pulls_whole held faults room HasFault cut_rule IsOut left left' old new result (bytes, (v, s, is)) writes =
-      let w = writes v (admits bytes v s) is in written_pulls HasFault cut_rule left left' w.push result w.ends
+      → IfErr result Tells
+  tells_whole held faults room Tells fault memory IsOut old new result (bytes, (v, s, is)) writes =
+      let w = writes v (admits bytes v s) is in written_tells Tells fault memory w.push result w.ends

@@ -1,5 +1,5 @@
 //! An instance, checked as it comes from a source.
-ghost use Rattle.std.specs.Prelude.{◌≡◌, ◌≤◌, IfOk, IfErr, IfSome, OnOk, IsErrOf};
+ghost use Rattle.std.specs.Prelude.{◌≡◌, ◌≤◌, IfOk, IfErr, IfSome, OnOk, IsErrOf, IsTrue};
 ghost use Rattle.std.specs.Io.KnownBytes.{IsAtEnd};
 ghost use Rattle.lexical_core.specs.declared.rule.Rule.TheVariants.{Truncated, DerTruncated};
 ghost use Rattle.outside.specs.Source.{Rose};
@@ -18,6 +18,7 @@ use xml_instances::XmlChecker;
 /// They are read to their end, to the piece that shows the first fault, or to the piece with the
 /// first byte beyond 2^40. A fault's place is a byte number from 0. A failed pull is not tried again.
 pub fn check_xml<I: Source>(alloc: Global, model: &Model, source: &mut I) -> Result<(), CheckError>
+    requires { IsTrue (I.may_be_pulled source.old) }
     ensures ok { IfOk result (λ _. IfSome (I.left source.old) (λ bytes. IsAccepted model.now bytes)) }
     ensures whole { OnOk result (IsAtEnd (I.left source.new)) }
     ensures refused { IfErr result (λ e. IfSome (I.left source.old) (λ bytes. RefusesXml model.now bytes e)) }
@@ -35,6 +36,7 @@ pub fn check_xml<I: Source>(alloc: Global, model: &Model, source: &mut I) -> Res
 /// Whether the bytes that the source has left are the DER of an instance of the message, X.690.
 /// They are read as `check_xml` reads them.
 pub fn check_der<I: Source>(alloc: Global, model: &Model, source: &mut I) -> Result<(), CheckError>
+    requires { IsTrue (I.may_be_pulled source.old) }
     ensures ok { IfOk result (λ _. IfSome (I.left source.old) (λ bytes. IsDerAccepted model.now bytes)) }
     ensures whole { OnOk result (IsAtEnd (I.left source.new)) }
     ensures refused { IfErr result (λ e. IfSome (I.left source.old) (λ bytes. RefusesDer model.now bytes e)) }

@@ -1,5 +1,5 @@
 //! An instance, read as it comes from a source, and kept as pieces.
-ghost use Rattle.std.specs.Prelude.{◌≡◌, ◌≤◌, ℕ, List, IfOk, IfErr, IfSome, OnOk, IsErrOf, length};
+ghost use Rattle.std.specs.Prelude.{◌≡◌, ◌≤◌, ℕ, List, IfOk, IfErr, IfSome, OnOk, IsErrOf, IsTrue, length};
 ghost use Rattle.std.specs.Io.KnownBytes.{IsAtEnd};
 ghost use Rattle.lexical_core.specs.declared.rule.Rule.TheVariants.{Truncated, DerTruncated};
 ghost use Rattle.outside.specs.Source.{Rose};
@@ -22,6 +22,7 @@ pub(crate) fn read_xml<I: Source>(
     model: &Model,
     source: &mut I,
 ) -> Result<Instance, CheckError>
+    requires { IsTrue (I.may_be_pulled source.old) }
     ensures ok { IfOk result (λ instance. IfSome (I.left source.old) (λ bytes. HoldsXml model.now bytes instance × (length bytes ≤ most_bytes))) }
     ensures given { IfOk result (λ instance. (bytes : List ℕ) × HoldsXml model.now bytes instance) }
     ensures whole { OnOk result (IsAtEnd (I.left source.new)) }
@@ -43,6 +44,7 @@ pub(crate) fn read_der<I: Source>(
     model: &Model,
     source: &mut I,
 ) -> Result<Instance, CheckError>
+    requires { IsTrue (I.may_be_pulled source.old) }
     ensures ok { IfOk result (λ instance. IfSome (I.left source.old) (λ bytes. HoldsDer model.now bytes instance × (length bytes ≤ most_bytes))) }
     ensures given { IfOk result (λ instance. (bytes : List ℕ) × HoldsDer model.now bytes instance) }
     ensures whole { OnOk result (IsAtEnd (I.left source.new)) }

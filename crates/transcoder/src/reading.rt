@@ -1,5 +1,5 @@
 //! An instance, read as it comes from a source.
-ghost use Rattle.std.specs.Prelude.{◌≡◌, ◌<◌, ◌≤◌, ℕ, List, [], IfOk, IfErr, IfSome, OnOk, IsErrOf, length, codes};
+ghost use Rattle.std.specs.Prelude.{◌≡◌, ◌<◌, ◌≤◌, ℕ, List, [], IfOk, IfErr, IfSome, OnOk, IsErrOf, IsTrue, length, codes};
 ghost use Rattle.std.specs.Io.KnownBytes.{Consumes, IsAtEnd};
 ghost use Rattle.outside.specs.Pulls.{StopsSoon, pull_limit};
 ghost use Rattle.outside.specs.Source.{Rose};
@@ -100,6 +100,7 @@ fn feed_all<I: Source, W, X: Intake<W>>(
     requires few { length piece.old ≤ pull_limit }
     requires made { X.is_made_for reader.old model.now }
     requires fresh { X.has_fed reader.old model.now [] }
+    requires unended { IsTrue (I.may_be_pulled source.old) }
     ensures made { X.is_made_for reader.new model.now }
     ensures read { ReadsTo (λ x. X.has_fed x model.now) (λ x. X.is_made_for x model.now) (IsLimited (X.is_faulty model.now) (GivesSome (X.gives model.now)) X.cut_rule) (I.left source.old) (I.left source.new) reader.new result }
     ensures pulled { StopsSoon (WasFed (λ x. X.has_fed x model.now)) (I.left source.old) (I.left source.new) }
@@ -137,6 +138,7 @@ pub(crate) fn read_instance<I: Source, W: Drop, X: Intake<W> + Drop>(
 ) -> Result<W, CheckError>
     requires made { X.is_made_for reader model.now }
     requires fresh { X.has_fed reader model.now [] }
+    requires unended { IsTrue (I.may_be_pulled source.old) }
     requires only_cut { (x : X) (bytes : List ℕ) (fault : Told) → X.has_fed x model.now bytes → X.is_faulty model.now bytes fault → fault.rule ≡ X.cut_rule }
     ensures ok { IfOk result (λ given. IfSome (I.left source.old) (λ bytes. X.gives model.now bytes given × (length bytes ≤ most_bytes))) }
     ensures given { IfOk result (λ given. (bytes : List ℕ) × X.gives model.now bytes given) }

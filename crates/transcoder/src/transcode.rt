@@ -1,5 +1,5 @@
 //! An instance, read in one form and written in another.
-ghost use Rattle.std.specs.Prelude.{◌≡◌, ◌≤◌, IfErr, IsErrOf};
+ghost use Rattle.std.specs.Prelude.{◌≡◌, ◌≤◌, IfErr, IsErrOf, IsTrue};
 ghost use Rattle.lexical_core.specs.declared.rule.Rule.TheVariants.{Truncated, DerTruncated};
 ghost use Rattle.outside.specs.Source.{Rose};
 ghost use Rattle.data_types.specs.Value.{Value};
@@ -12,7 +12,7 @@ ghost use Rattle.xml_writer.specs.CanonXml.{IsCanonXml};
 ghost use Rattle.transcoder.specs.Checked.{IsDerOfXml, IsXmlOfDer, IsXmlOfXml, HasXmlFault, HasDerFault};
 ghost use Rattle.transcoder.specs.Pulls.{PullsToTransFault};
 ghost use Rattle.transcoder.specs.Transcoding.{IsTranscoded, IsWrittenOut};
-ghost use Rattle.transcoder.specs.TransErrors.{written_end};
+ghost use Rattle.transcoder.specs.TransErrors.{IsTransFaultOfSome, written_end};
 
 use crate::read::{read_der, read_xml};
 use crate::trans_error::TransError;
@@ -31,7 +31,9 @@ pub fn xml_to_der<I: Source, O: Sink>(
     source: &mut I,
     sink: &mut O,
 ) -> Result<(), TransError>
+    requires { IsTrue (I.may_be_pulled source.old) }
     ensures transcoded { IsTranscoded O.held O.faults O.room (IsDerOfXml model.now) (HasXmlFault model.now) (I.left source.old) (I.left source.new) sink.old sink.new result }
+    ensures placed { IfErr result (λ e. IsTransFaultOfSome (HasXmlFault model.now) e) }
     ensures pulled { IfErr result (λ e. PullsToTransFault (HasXmlFault model.now) Truncated (I.left source.old) (I.left source.new) e) }
     ensures fault { IsErrOf result TransError.ReadFault → Rose (I.faults source.old) (I.faults source.new) }
     ensures later { I.faults source.old ≤ I.faults source.new }
@@ -51,7 +53,9 @@ pub fn der_to_xml<I: Source, O: Sink>(
     source: &mut I,
     sink: &mut O,
 ) -> Result<(), TransError>
+    requires { IsTrue (I.may_be_pulled source.old) }
     ensures transcoded { IsTranscoded O.held O.faults O.room (IsXmlOfDer model.now) (HasDerFault model.now) (I.left source.old) (I.left source.new) sink.old sink.new result }
+    ensures placed { IfErr result (λ e. IsTransFaultOfSome (HasDerFault model.now) e) }
     ensures pulled { IfErr result (λ e. PullsToTransFault (HasDerFault model.now) DerTruncated (I.left source.old) (I.left source.new) e) }
     ensures fault { IsErrOf result TransError.ReadFault → Rose (I.faults source.old) (I.faults source.new) }
     ensures later { I.faults source.old ≤ I.faults source.new }
@@ -71,7 +75,9 @@ pub fn xml_to_xml<I: Source, O: Sink>(
     source: &mut I,
     sink: &mut O,
 ) -> Result<(), TransError>
+    requires { IsTrue (I.may_be_pulled source.old) }
     ensures transcoded { IsTranscoded O.held O.faults O.room (IsXmlOfXml model.now) (HasXmlFault model.now) (I.left source.old) (I.left source.new) sink.old sink.new result }
+    ensures placed { IfErr result (λ e. IsTransFaultOfSome (HasXmlFault model.now) e) }
     ensures pulled { IfErr result (λ e. PullsToTransFault (HasXmlFault model.now) Truncated (I.left source.old) (I.left source.new) e) }
     ensures fault { IsErrOf result TransError.ReadFault → Rose (I.faults source.old) (I.faults source.new) }
     ensures later { I.faults source.old ≤ I.faults source.new }

@@ -13,7 +13,7 @@ use Rattle.code_sets.specs.declared.errors.CodesError.{CodesError}
 use Rattle.code_sets.specs.declared.errors.CodesError.TheVariants as codes_error
 use Rattle.code_sets.specs.declared.record.CodeRecord.{CodeRecord}
 use Rattle.code_sets.specs.Codes.{ReadsCodes, codes_limit}
-use Rattle.code_sets.specs.CodesErrors.{AreCodesPulled}
+use Rattle.code_sets.specs.CodesErrors.{AreCodesPulled, AreFewBytes}
 use Rattle.reference_check.specs.declared.reached.ReadyError.{ReadyError}
 use Rattle.reference_check.specs.declared.reached.ReadyError.TheVariants as ready
 use Rattle.transcoder.specs.declared.check_error.CheckError.{CheckError}
@@ -116,6 +116,7 @@ StopsAtRepository repo repo' stop = Unit {0}
 abbrev pub StopsAtCodes : Option (List ℕ) → Option (List ℕ) → Stop → Type 0
 StopsAtCodes codes codes' (Refused (Codes rule number)) = AreCodesPulled codes codes'
 StopsAtCodes codes codes' (Refused refusal) = ⊥
+StopsAtCodes codes codes' ReadFault = (taken : List ℕ) × Consumes codes codes' taken × AreFewBytes taken
 StopsAtCodes codes codes' stop = Unit {0}
 
 -- how far both were pulled where a command stops before an instance is read; none is refused then
@@ -123,7 +124,7 @@ abbrev pub StopsAtFiles : {R C : Type 0} → Use R → Use C → Stop → Type 0
 StopsAtFiles repo codes (Refused (Repository fault)) = StopsSoon ShowsNoLoadFault (repo.left repo.old) (repo.left repo.new) × Untouched codes
 StopsAtFiles repo codes (Refused (Codes rule number)) = AreCodesPulled (codes.left codes.old) (codes.left codes.new)
 StopsAtFiles repo codes (Refused (Instance fault)) = ⊥
-StopsAtFiles repo codes ReadFault = HadShownNone ShowsNoLoadFault repo
+StopsAtFiles repo codes ReadFault = HadShownNone ShowsNoLoadFault repo × HadShownNone AreFewBytes codes
 StopsAtFiles repo codes stop = Unit {0}
 
 -- a stop that refuses nothing but an instance

@@ -1,4 +1,4 @@
-use Rattle.std.proofs.Common.{◌≡◌, ◌<◌, ◌≤◌, ◌-◌, length}
+use Rattle.std.proofs.Common.{◌≡◌, ◌<◌, ◌≤◌, ◌-◌, length, IsTrue}
 use Rattle.std.specs.Io.KnownBytes.{Consumes}
 use Rattle.outside.proofs.reading.read_all.Given as goal
 
@@ -8,6 +8,7 @@ invariant-loop-count g l = record {
   same : g.S.Source.faults l.source ≡ g.S.Source.faults l.fn.source;
   some_room : 0 < length l.buffer.items;
   limit : length l.bytes.items ≤ l.fn.limit;
+  unended : IsTrue (g.S.Source.may_be_pulled l.source);
   front : Consumes (g.S.Source.left l.fn.source) (g.S.Source.left l.source) l.bytes.items;
 }
 

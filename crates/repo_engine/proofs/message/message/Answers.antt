@@ -4,7 +4,7 @@ use Rattle.repo_engine.specs.inner.Arms.{RefusesUpToMessage}
 use Rattle.repo_engine.specs.Sources.{of_source}
 use Rattle.repo_engine.proofs.Ends.{tells_stopped, goes_nowhere}
 use Rattle.repo_engine.proofs.Performing.{tells_more}
-use Rattle.repo_engine.proofs.Messages.{first_quiet, message_given, message_refused, third_on, third_not, no_words}
+use Rattle.repo_engine.proofs.Messages.{first_quiet, second_quiet, message_given, message_refused, third_on, third_not, no_words}
 use Rattle.repo_engine.proofs.Pulls.{no_files, stops_soon, files_soon, no_instance}
 use Rattle.repo_engine.proofs.Steps.{if_err}
 use Rattle.repo_engine.proofs.message.message.Goals as goal
@@ -35,7 +35,7 @@ pub returns-in-Ok-clause-files_pulled : goal.returns-in-Ok-clause-files_pulled
 returns-in-Ok-clause-files_pulled g c =
     let repo = (of_source g.R.Source.left g.R.Source.faults c.args.repo.now c.read_message.new.repo) in
     let codes = (of_source g.C.Source.left g.C.Source.faults c.args.codes.now c.read_message.new.codes) in
-    if_err _ _ c.on_model.result (no_files (λ i. OfVerb c.args.verb i c.in-Ok.model) (of_source g.I.Source.left g.I.Source.faults c.args.inst.now c.on_model.new.inst) repo codes (first_quiet _ repo codes c.in-Ok.ensures.sources)) c.on_model.ensures.pulled
+    if_err _ _ c.on_model.result (no_files (λ i. OfVerb c.args.verb i c.in-Ok.model) (of_source g.I.Source.left g.I.Source.faults c.args.inst.now c.on_model.new.inst) repo codes (first_quiet _ repo codes c.in-Ok.ensures.sources) (second_quiet _ repo codes c.in-Ok.ensures.sources)) c.on_model.ensures.pulled
 
 pub returns-in-Ok-clause-instance_pulled : goal.returns-in-Ok-clause-instance_pulled
 returns-in-Ok-clause-instance_pulled g c r codes left =

@@ -18,4 +18,4 @@ pub returns-in-Err-clause-stops : goal.returns-in-Err-clause-stops
 returns-in-Err-clause-stops c = rw c.stop_of_codes.ensures (join_stops _ _ _ c.in-Err.ensures.err)
 
 pub returns-in-Err-clause-pulled : goal.returns-in-Err-clause-pulled
-returns-in-Err-clause-pulled c codes codes' p = rw c.stop_of_codes.ensures (read_codes_stop codes codes' p _)
+returns-in-Err-clause-pulled c codes codes' p = rw c.stop_of_codes.ensures (read_codes_stop codes codes' p _ _ _ c.in-Err.ensures.err)

@@ -12,6 +12,7 @@ loop-count-init g c = record {
   same = search rules;
   some = search rules;
   few = search rules;
+  unended = c.requires.unended;
   so_far = room_whole (g.R.Source.left c.args.source.now) c.args.progress.now c.requires.read;
 }
 
@@ -111,6 +112,7 @@ loop-count-preserved g c =
       same = c.in-Ok.ensures.cause.same ∙ c.loop-count.invariant.same;
       some = omega arith;
       few = omega arith;
+      unended = search rules;
       so_far = room_left (g.R.Source.left c.args.source.now) (g.R.Source.left c.loop-count.source) c.loop-count.room c.loop-count.progress h (g.R.Source.left c.pull.new.self) xs c.in-Ok.ensures.bytes.0 c.min.result c.in-Ok.count c.take_all.new.self
           (sym c.in-Ok.ensures.bound.1) (search rules) (omega arith)
           k;

@@ -60,6 +60,7 @@ loop-count-preserved g c =
       steady = search rules;
       some_room = omega arith;
       few = omega arith;
+      unended = search rules;
       so_far = read_more (λ x. g.X.Intake.has_fed x T) (λ x. g.X.Intake.is_made_for x T) (g.I.Source.left c.args.source.now) (g.I.Source.left c.loop-count.source) (g.I.Source.left c.pull.new.self) xs c.min.result c.loop-count.room
           c.loop-count.reader h c.in-Ok.ensures.bytes.0 c.in-Ok.count c.feed.new.self (sym c.in-Ok.ensures.bound.1) (search rules) (omega arith) c.feed.ensures.made
           (subst (λ v. g.X.Intake.has_fed c.feed.new.self T (h.taken_are ++ v)) c.split_at.ensures.front (c.in_default-feed.ensures.ok h.taken_are h.fed_are));
