@@ -3,6 +3,7 @@ pub mod Lists
 pub mod Ends
 pub mod Steps
 pub mod Pulls
+pub mod FileVerdicts
 pub mod Performing
 pub mod TypeLines
 pub mod Messages

@@ -13,8 +13,8 @@ use Rattle.message_model.specs.declared.fault.Fault.{Fault}
 use Rattle.transcoder.specs.CheckErrors.{RefusesBy}
 use Rattle.transcoder.specs.declared.check_error.CheckError.{CheckError}
 use Rattle.transcoder.specs.declared.check_error.CheckError.TheVariants as check
-use Rattle.repo_engine.specs.Answer.{FromMessage, GivesMessage, RefusesMessage, GivesTables}
-use Rattle.repo_engine.specs.inner.Arms.{IsOfInput, IsReadAs, unread, read, RefusesUpToMessage, StopsBy, check_stop, end_of, ready_stop}
+use Rattle.repo_engine.specs.Answer.{FromMessage, GivesMessage, RefusesMessage, GivesTables, RefusesUpToMessage}
+use Rattle.repo_engine.specs.inner.Arms.{IsOfInput, IsReadAs, unread, read, StopsBy, check_stop, end_of, ready_stop}
 use Rattle.repo_engine.specs.Run.{TellsVerdict}
 use Rattle.repo_engine.specs.Sources.{Use, Untouched, Ended, Whole, Failing, Refusing, IsSourceRead, AreRead, one, both, AreReadInTurn, before, behind, source_ended_of, stop_ended}
 use Rattle.repo_engine.specs.Steps.{Then, refused, goes_on}

@@ -13,7 +13,7 @@ use Rattle.drill.specs.Drilled.{IsDrilled}
 use Rattle.drill.specs.Growing.{instance}
 use Rattle.drill.specs.declared.drilling.Drilled.{Drilled}
 use Rattle.repo_engine.specs.Texts.{drill_text}
-use Rattle.repo_engine.specs.Answer.{Answer, Of, OfVerb, Drills, FromXml, RefusesAsXml, GivesXmlValue, FromDer, RefusesAsDer, GivesDerValue, IsFine, GivesXml, GivesDer, FromMessage, FromRepository, TellsFileFault, RefusesCodes, GivesJoined, RefusesMessage, GivesTables, GivesMessage}
+use Rattle.repo_engine.specs.Answer.{Answer, IsVerdictOf, IsVerdictOfVerb, Drills, FromXml, RefusesAsXml, GivesXmlValue, FromDer, RefusesAsDer, GivesDerValue, IsFine, GivesXml, GivesDer, FromMessage, FromRepository, TellsFileFault, RefusesCodes, GivesJoined, RefusesMessage, GivesTables, GivesMessage}
 use Rattle.repo_engine.specs.Command.{Command, list, message, drill}
 use Rattle.repo_engine.specs.Steps.{Then, refused, goes_on, One, IsStep}
 use Rattle.repo_engine.specs.Verdict.{Verdict}
@@ -108,7 +108,7 @@ module _ (laws : StepLaws) where
   sound_types : (R : Contents) (id : List ℕ) (T : Tables) → GivesTables R id T → AreSoundTypes T
   sound_types R id T (ready, (ids, reached, made)) = laws.compiled_are_sound R id ids T ready reached made
 
-  one_verb : (verb : Verb) (R : Contents) (id i : List ℕ) (T : Tables) → GivesTables R id T → One Verdict (OfVerb verb i T)
+  one_verb : (verb : Verb) (R : Contents) (id i : List ℕ) (T : Tables) → GivesTables R id T → One Verdict (IsVerdictOfVerb verb i T)
   one_verb Types R id i T gives = λ v w is also. is ∙ sym also
   one_verb Xsd R id i T gives = λ v w is also. is ∙ sym also
   one_verb Asn1 R id i T gives = λ v w is also. is ∙ sym also
@@ -137,11 +137,11 @@ module _ (laws : StepLaws) where
   one_drill : (number size : ℕ) → One Verdict (Drills number size)
   one_drill number size v w (a, h, is) (b, k, also) = is ∙ (ap (λ d. verdict.accepted (drill_text d)) (one_drilled number size a b h k) ∙ sym also)
 
-  one_of : (command : Command) (r c i : List ℕ) → One Verdict (Of command r c i)
+  one_of : (command : Command) (r c i : List ℕ) → One Verdict (IsVerdictOf command r c i)
   one_of (list codes_word) r c i = one_from_repository codes_word r c _ (λ R v w is also. is ∙ sym also)
   one_of (message verb codes_word id) r c i =
-      one_from_repository codes_word r c (λ R. Then Verdict Tables (RefusesMessage R id) (GivesTables R id) (OfVerb verb i))
-      (λ R. one_then Verdict Tables (RefusesMessage R id) (GivesTables R id) (OfVerb verb i) (message_step R id) (λ T gives. one_verb verb R id i T gives))
+      one_from_repository codes_word r c (λ R. Then Verdict Tables (RefusesMessage R id) (GivesTables R id) (IsVerdictOfVerb verb i))
+      (λ R. one_then Verdict Tables (RefusesMessage R id) (GivesTables R id) (IsVerdictOfVerb verb i) (message_step R id) (λ T gives. one_verb verb R id i T gives))
   one_of (drill number size) r c i = one_drill number size
 
   pub one_answer : (ws : List (List ℕ)) (r c i : List ℕ) (v w : Verdict) → Answer ws r c i v → Answer ws r c i w → v ≡ w
@@ -149,4 +149,4 @@ module _ (laws : StepLaws) where
   one_answer ws r c i v w (inl (unlisted, is)) (inr (command, form, of)) = absurd (unlisted command form)
   one_answer ws r c i v w (inr (command, form, of)) (inl (unlisted, is)) = absurd (unlisted command form)
   one_answer ws r c i v w (inr (command, form, of)) (inr (other, also, more)) =
-      one_of command r c i v w of (subst (λ x. Of x r c i w) (one_command ws other command also form) more)
+      one_of command r c i v w of (subst (λ x. IsVerdictOf x r c i w) (one_command ws other command also form) more)

@@ -3,13 +3,13 @@ use Rattle.std.proofs.Common.{◌≡◌, ◌⊎◌, inl, inr, ℕ, List, [], ◌
 use Rattle.std.specs.Prelude.{if◌then◌else◌}
 use Rattle.std.specs.Str.{bytes_eq}
 use Rattle.std.specs.Str.Parse.{digits_value}
-use Rattle.repo_engine.specs.Answer.{Answer, HasCompiledMessage, Of}
+use Rattle.repo_engine.specs.Answer.{Answer, HasCompiledMessage, IsVerdictOf}
 use Rattle.repo_engine.specs.inner.Arms.{Carries}
 use Rattle.repo_engine.specs.inner.Commands.{AsksFor, IsBoundedDrill}
 use Rattle.repo_engine.specs.declared.command.Command as declared
 use Rattle.repo_engine.specs.declared.command.Command.TheVariants as asked
 use Rattle.repo_engine.specs.Command.{Command, list, message, drill, HasCommandForm, pulled_by, verb_word}
-use Rattle.repo_engine.specs.Run.{End, HasFilesTold, Performs, TellsVerdict}
+use Rattle.repo_engine.specs.Run.{End, HasFilesTold, Performs, TellsOfFiles, TellsVerdict}
 use Rattle.repo_engine.specs.Sources.{Use, Untouched, AreUsed, source_ended_of}
 use Rattle.repo_engine.specs.Verdict.{Verdict}
 use Rattle.repo_engine.specs.declared.command.Verb.{Verb}
@@ -95,18 +95,20 @@ performs_command ws command repo codes inst held faults old new end form carries
   words = (λ u. absurd (u command form), λ e. absurd (carries.no_words e));
   untouched = λ u. absurd (u command form);
   sources = λ other same. subst (λ k. AreUsed (pulled_by k).repository (pulled_by k).codes (pulled_by k).instance (source_ended_of end) repo codes inst) (one_command ws command other form same) carries.sources;
-  verdict = λ r c i left. tells_more (Of command r c i) (Answer ws r c i) end _ _ (λ v h. inr (command, form, h))
+  verdict = λ r c i left. tells_more (IsVerdictOf command r c i) (Answer ws r c i) end _ _ (λ v h. inr (command, form, h))
       (carries.verdict r c i (left command form));
+  repository_verdict = carries.repository_verdict;
+  files_verdict = λ other same r c. subst (λ k. HasFilesTold k (repo.left repo.old) (codes.left codes.old) r c → TellsOfFiles k r c end) (one_command ws command other form same) (carries.files_verdict r c);
   files_pulled = carries.files_pulled;
-  instance_pulled = λ r c left. if_err _ _ end (other_answers (λ i. Of command r c i) inst (λ i. Answer ws r c i) (λ i v. asked r c i v))
+  instance_pulled = λ r c left. if_err _ _ end (other_answers (λ i. IsVerdictOf command r c i) inst (λ i. Answer ws r c i) (λ i v. asked r c i v))
       (carries.instance_pulled r c (left command form));
   codes_behind = carries.codes_behind;
   instance_behind = λ other same r c. subst (λ k. HasFilesTold k (repo.left repo.old) (codes.left codes.old) r c → Untouched inst ⊎ HasCompiledMessage k r c) (one_command ws command other form same) (carries.instance_behind r c);
   out = carries.out;
 } where
-  asked : (r c i : List ℕ) (v : Verdict) → Answer ws r c i v → Of command r c i v
+  asked : (r c i : List ℕ) (v : Verdict) → Answer ws r c i v → IsVerdictOf command r c i v
   asked r c i v (inl (unlisted, is)) = absurd (unlisted command form)
-  asked r c i v (inr (other, same, of)) = subst (λ k. Of k r c i v) (sym (one_command ws command other form same)) of
+  asked r c i v (inr (other, same, of)) = subst (λ k. IsVerdictOf k r c i v) (sym (one_command ws command other form same)) of
 
 -- a command that words ask for is bounded
 pub asked_bounded : (ws : List (List ℕ)) (command : declared.Command) → AsksFor ws command → IsBoundedDrill command

@@ -11,7 +11,7 @@ use Rattle.xml_writer.specs.CanonXml.{IsCanonXml}
 use Rattle.xml_writer.specs.SpellingLaw.{CompiledSpells}
 use Rattle.transcoder.specs.Limited.{most_bytes}
 use Rattle.transcoder.specs.Laws.{OneVerdict, HaveOneVerdict, OneDerVerdict, HaveOneDerVerdict, AreSoundTypes}
-use Rattle.repo_engine.specs.Answer.{OfVerb, GivesXml, GivesTables}
+use Rattle.repo_engine.specs.Answer.{IsVerdictOfVerb, GivesXml, GivesTables}
 use Rattle.repo_engine.specs.RoundTrips.{XmlComesBack, DerComesBack}
 use Rattle.repo_engine.specs.Steps.{refused, goes_on}
 use Rattle.repo_engine.specs.Verdict.{Verdict, accepted}
@@ -30,14 +30,14 @@ module _ (T : Tables) (xml der : List ℕ) (w : Value)
     (one_xml : HaveOneVerdict T xml) (one_der : HaveOneDerVerdict T der)
     (xml_is : SpellsXml (message_of T) xml w) (xml_short : length xml ≤ most_bytes)
     (der_is : SpellsDer (der_message T) der w) (der_short : length der ≤ most_bytes) where
-  same_answers : (v : Verdict) → OfVerb DerToXml der T v ↔ OfVerb CanonXml xml T v
+  same_answers : (v : Verdict) → IsVerdictOfVerb DerToXml der T v ↔ IsVerdictOfVerb CanonXml xml T v
   same_answers v = (there, back)
     where
-      there : OfVerb DerToXml der T v → OfVerb CanonXml xml T v
+      there : IsVerdictOfVerb DerToXml der T v → IsVerdictOfVerb CanonXml xml T v
       there (refused (f, faulty, is)) = absurd (one_der.none f ((w, der_is), der_short) faulty)
       there (goes_on a (spelled, short) more) = goes_on w (xml_is, xml_short) (subst (λ x. GivesXml T x v) (one_der.value a w spelled der_is) more)
 
-      back : OfVerb CanonXml xml T v → OfVerb DerToXml der T v
+      back : IsVerdictOfVerb CanonXml xml T v → IsVerdictOfVerb DerToXml der T v
       back (refused (f, faulty, is)) = absurd (one_xml.none f ((w, xml_is), xml_short) faulty)
       back (goes_on a (spelled, short) more) = goes_on w (der_is, der_short) (subst (λ x. GivesXml T x v) (one_xml.value a w spelled xml_is) more)
 
@@ -49,10 +49,10 @@ xml_comes_back sound one_verdict one_der_verdict R id T xml der gives (goes_on w
 
 -- what `xml-to-der` answers to XML of a value
 der_answer : (T : Tables) (xml der : List ℕ) (w : Value) → HaveOneVerdict T xml → SpellsXml (message_of T) xml w → length xml ≤ most_bytes → der ≡ der_of (der_message T) w
-    → (v : Verdict) → OfVerb XmlToDer xml T v ↔ (v ≡ accepted der)
+    → (v : Verdict) → IsVerdictOfVerb XmlToDer xml T v ↔ (v ≡ accepted der)
 der_answer T xml der w one_xml xml_is xml_short same v = (there, λ is. goes_on w (xml_is, xml_short) (is ∙ ap accepted same))
   where
-    there : OfVerb XmlToDer xml T v → v ≡ accepted der
+    there : IsVerdictOfVerb XmlToDer xml T v → v ≡ accepted der
     there (refused (f, faulty, is)) = absurd (one_xml.none f ((w, xml_is), xml_short) faulty)
     there (goes_on a (spelled, short) is) = is ∙ (ap (λ x. accepted (der_of (der_message T) x)) (one_xml.value a w spelled xml_is) ∙ ap accepted (sym same))
 

@@ -22,7 +22,7 @@ use Rattle.transcoder.specs.Laws.{SomeVerdict, SomeDerVerdict, AreSoundTypes}
 use Rattle.drill.specs.BuiltIn.{drill_tables}
 use Rattle.drill.specs.Drilled.{IsAdmitted}
 use Rattle.drill.specs.Growing.{instance, deepest, most_beside}
-use Rattle.repo_engine.specs.Answer.{Answer, Of, OfVerb, Drills, FromXml, RefusesAsXml, GivesXmlValue, FromDer, RefusesAsDer, GivesDerValue, IsFine, GivesXml, GivesDer, FromRepository, TellsFileFault, RefusesCodes, GivesJoined, RefusesMessage, GivesTables}
+use Rattle.repo_engine.specs.Answer.{Answer, IsVerdictOf, IsVerdictOfVerb, Drills, FromXml, RefusesAsXml, GivesXmlValue, FromDer, RefusesAsDer, GivesDerValue, IsFine, GivesXml, GivesDer, FromRepository, TellsFileFault, RefusesCodes, GivesJoined, RefusesMessage, GivesTables}
 use Rattle.repo_engine.specs.Command.{Command, list, message, drill, HasCommandForm, hands_in}
 use Rattle.repo_engine.specs.Steps.{Then, refused, goes_on, IsTotal}
 use Rattle.repo_engine.specs.Verdict.{Verdict}
@@ -104,7 +104,7 @@ module _ (laws : TotalLaws) where
   from_der : (T : Tables) (i : List ℕ) (Next : Value → Verdict → Type 0) → AreSoundTypes T → HaveKinds (types_of T) → ((value : Value) → GivesDerValue T i value → Told (Next value)) → Told (FromDer T i Next)
   from_der T i Next sound kinds next = some_then Value (RefusesAsDer T i) (GivesDerValue T i) Next (der_total T i sound kinds) next
 
-  some_verb : (verb : Verb) (R : Contents) (id i : List ℕ) (T : Tables) → GivesTables R id T → Told (OfVerb verb i T)
+  some_verb : (verb : Verb) (R : Contents) (id i : List ℕ) (T : Tables) → GivesTables R id T → Told (IsVerdictOfVerb verb i T)
   some_verb Types R id i T gives = λ lacks. lacks (_, refl)
   some_verb Xsd R id i T gives = λ lacks. lacks (_, refl)
   some_verb Asn1 R id i T gives = λ lacks. lacks (_, refl)
@@ -132,11 +132,11 @@ module _ (laws : TotalLaws) where
         ),
       )
 
-  some_of : (ws : List (List ℕ)) (command : Command) (r c i : List ℕ) → HasCommandForm ws command → Told (Of command r c i)
+  some_of : (ws : List (List ℕ)) (command : Command) (r c i : List ℕ) → HasCommandForm ws command → Told (IsVerdictOf command r c i)
   some_of ws (list codes_word) r c i form = some_from_repository codes_word r c _ (λ R lacks. lacks (_, refl))
   some_of ws (message verb codes_word id) r c i form =
-      some_from_repository codes_word r c (λ R. Then Verdict Tables (RefusesMessage R id) (GivesTables R id) (OfVerb verb i))
-      (λ R. some_then Tables (RefusesMessage R id) (GivesTables R id) (OfVerb verb i) (message_total R id) (λ T gives. some_verb verb R id i T gives))
+      some_from_repository codes_word r c (λ R. Then Verdict Tables (RefusesMessage R id) (GivesTables R id) (IsVerdictOfVerb verb i))
+      (λ R. some_then Tables (RefusesMessage R id) (GivesTables R id) (IsVerdictOfVerb verb i) (message_total R id) (λ T gives. some_verb verb R id i T gives))
   some_of ws (drill number size) r c i (one, other, is, says, counts, small) = some_drill number size small
 
   pub some_answer : (ws : List (List ℕ)) (r c i : List ℕ) → Told (Answer ws r c i)

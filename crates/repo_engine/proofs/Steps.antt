@@ -2,8 +2,8 @@
 use Rattle.std.proofs.Common.{◌≡◌, inl, inr, ℕ, List, Result, Ok, Err}
 use Rattle.std.specs.Prelude.{IfOk, IfErr}
 use Rattle.repo_objects.specs.Repository.{Contents}
-use Rattle.repo_engine.specs.Answer.{FromRepository, GivesRepository}
-use Rattle.repo_engine.specs.inner.Arms.{RefusesRepository, StopsBy}
+use Rattle.repo_engine.specs.Answer.{FromRepository, GivesRepository, RefusesRepository}
+use Rattle.repo_engine.specs.inner.Arms.{StopsBy}
 use Rattle.repo_engine.specs.Steps.{refused, goes_on}
 use Rattle.repo_engine.specs.Verdict.{Verdict}
 use Rattle.repo_engine.specs.declared.refusal.Stop.{Stop}

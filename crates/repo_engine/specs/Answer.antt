@@ -74,6 +74,14 @@ GivesTables R id T = IsReady R id × ((ids : List (List ℕ)) × IsReachedList R
 abbrev pub GivesMessage : List ℕ → List ℕ → List ℕ → List ℕ → Tables → Type 0
 GivesMessage codes_word id r c T = (R : Contents) × GivesRepository codes_word r c R × GivesTables R id T
 
+-- why there is no repository with its codes
+abbrev pub RefusesRepository : List ℕ → List ℕ → List ℕ → Verdict → Type 0
+RefusesRepository codes_word r c v = TellsFileFault r v ⊎ ((own : Contents) × Spells r own × RefusesCodes codes_word own c v)
+
+-- why there is no compiled message
+abbrev pub RefusesUpToMessage : List ℕ → List ℕ → List ℕ → List ℕ → Verdict → Type 0
+RefusesUpToMessage codes_word id r c v = RefusesRepository codes_word r c v ⊎ ((R : Contents) × GivesRepository codes_word r c R × RefusesMessage R id v)
+
 -- that of the command is
 abbrev pub HasCompiledMessage : Command → List ℕ → List ℕ → Type 0
 HasCompiledMessage (message verb codes_word id) r c = (T : Tables) × GivesMessage codes_word id r c T
@@ -136,15 +144,15 @@ abbrev pub GivesDer : Tables → Value → Verdict → Type 0
 GivesDer T value v = v ≡ accepted (der_of (der_message T) value)
 
 -- what a command of one message does with its tables
-abbrev pub OfVerb : Verb → List ℕ → Tables → Verdict → Type 0
-OfVerb Types i T = GivesTypes T
-OfVerb Xsd i T = GivesSchema T
-OfVerb Asn1 i T = GivesModule T
-OfVerb CheckXml i T = FromXml T i IsFine
-OfVerb CheckDer i T = FromDer T i IsFine
-OfVerb CanonXml i T = FromXml T i (GivesXml T)
-OfVerb XmlToDer i T = FromXml T i (GivesDer T)
-OfVerb DerToXml i T = FromDer T i (GivesXml T)
+abbrev pub IsVerdictOfVerb : Verb → List ℕ → Tables → Verdict → Type 0
+IsVerdictOfVerb Types i T = GivesTypes T
+IsVerdictOfVerb Xsd i T = GivesSchema T
+IsVerdictOfVerb Asn1 i T = GivesModule T
+IsVerdictOfVerb CheckXml i T = FromXml T i IsFine
+IsVerdictOfVerb CheckDer i T = FromDer T i IsFine
+IsVerdictOfVerb CanonXml i T = FromXml T i (GivesXml T)
+IsVerdictOfVerb XmlToDer i T = FromXml T i (GivesDer T)
+IsVerdictOfVerb DerToXml i T = FromDer T i (GivesXml T)
 
 -- ---- the drill
 
@@ -155,11 +163,11 @@ Drills number size v = (told : Drilled) × IsDrilled number size told × (v ≡ 
 -- ---- words and bytes
 
 -- the verdict of a command on the bytes r, c and i of the repository, the codes and the instance
-abbrev pub Of : Command → List ℕ → List ℕ → List ℕ → Verdict → Type 0
-Of (list codes_word) r c i = FromRepository codes_word r c Lists
-Of (message verb codes_word id) r c i = FromMessage codes_word id r c (OfVerb verb i)
-Of (drill number size) r c i = Drills number size
+abbrev pub IsVerdictOf : Command → List ℕ → List ℕ → List ℕ → Verdict → Type 0
+IsVerdictOf (list codes_word) r c i = FromRepository codes_word r c Lists
+IsVerdictOf (message verb codes_word id) r c i = FromMessage codes_word id r c (IsVerdictOfVerb verb i)
+IsVerdictOf (drill number size) r c i = Drills number size
 
 -- the verdict on words and bytes
 abbrev pub Answer : List (List ℕ) → List ℕ → List ℕ → List ℕ → Verdict → Type 0
-Answer ws r c i v = (IsUnlisted ws × (v ≡ refused Words [])) ⊎ ((command : Command) × HasCommandForm ws command × Of command r c i v)
+Answer ws r c i v = (IsUnlisted ws × (v ≡ refused Words [])) ⊎ ((command : Command) × HasCommandForm ws command × IsVerdictOf command r c i v)

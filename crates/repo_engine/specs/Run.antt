@@ -1,5 +1,5 @@
 -- What the top call promises.
-use Rattle.std.specs.Prelude.{◌≡◌, ◌⊎◌, ◌↔◌, ℕ, ◌≤◌, true, List, Option, Some, Result, Ok, Err, IfErr}
+use Rattle.std.specs.Prelude.{◌≡◌, ◌⊎◌, ◌↔◌, ℕ, ◌≤◌, true, List, [], Option, Some, Result, Ok, Err, IfErr}
 use Rattle.std.specs.Io.KnownBytes.{Appends, Keeps}
 use Rattle.outside.specs.Source.{Rose}
 use Rattle.outside.specs.Sink.{AppendsFront}
@@ -9,13 +9,13 @@ use Rattle.outside.specs.declared.errors.SinkError.TheVariants.{Failed}
 use Rattle.outside.specs.declared.errors.SinkError.TheVariants as sink
 use Rattle.repo_engine.specs.declared.refusal.Stop.{Stop}
 use Rattle.repo_engine.specs.declared.refusal.Stop.TheVariants.{Refused, ReadFault, WriteFault, Memory}
-use Rattle.repo_engine.specs.declared.refusal.Refusal.TheVariants.{Words}
+use Rattle.repo_engine.specs.declared.refusal.Refusal.TheVariants.{Words, Repository, Instance}
 use Rattle.repo_engine.specs.declared.status.Status.{Status}
 use Rattle.repo_engine.specs.declared.status.Status.TheVariants as status
 use Rattle.repo_objects.specs.Repository.{Contents}
 use Rattle.repo_loader.specs.Loaded.{Spells}
-use Rattle.repo_engine.specs.Answer.{Answer, HasCompiledMessage}
-use Rattle.repo_engine.specs.Command.{Command, HasCommandForm, IsUnlisted, pulled_by}
+use Rattle.repo_engine.specs.Answer.{Answer, HasCompiledMessage, RefusesUpToMessage, TellsFileFault}
+use Rattle.repo_engine.specs.Command.{Command, message, HasCommandForm, IsUnlisted, pulled_by}
 use Rattle.repo_engine.specs.Pulls.{StopsFilesSoon, StopsInstanceSoon}
 use Rattle.repo_engine.specs.Sources.{Use, Untouched, AreUsed, source_ended_of}
 use Rattle.repo_engine.specs.Verdict.{Verdict, accepted, refused, stop_line, stop_status}
@@ -49,6 +49,26 @@ TellsVerdict Is (Err (Refused refusal)) out out' = (text : List ℕ) × Is (refu
 TellsVerdict Is (Err ReadFault) out out' = Unit {0}
 TellsVerdict Is (Err WriteFault) out out' = (text : List ℕ) × Is (accepted text) × AppendsFront out out' text
 TellsVerdict Is (Err Memory) out out' = Keeps out out' ⊎ ((text : List ℕ) × Is (accepted text) × AppendsFront out out' text)
+
+-- A refusal of the repository is the verdict on its bytes, whatever the other sources tell.
+abbrev pub TellsOfRepository : List ℕ → End → Type 0
+TellsOfRepository r (Err (Refused (Repository fault))) = TellsFileFault r (refused (Repository fault) [])
+TellsOfRepository r end = Unit {0}
+
+-- What the end says of repository, codes and message, whatever the source of the instance tells: a refusal of one of them is the verdict on their
+-- bytes; at each other end but a failed read and want of memory, the message is compiled from them.
+abbrev pub TellsUpToMessage : (Verdict → Type 0) → Type 0 → End → Type 0
+TellsUpToMessage Refuses Compiled (Ok done) = Compiled
+TellsUpToMessage Refuses Compiled (Err (Refused (Instance fault))) = Compiled
+TellsUpToMessage Refuses Compiled (Err (Refused refusal)) = Refuses (refused refusal [])
+TellsUpToMessage Refuses Compiled (Err ReadFault) = Unit {0}
+TellsUpToMessage Refuses Compiled (Err WriteFault) = Compiled
+TellsUpToMessage Refuses Compiled (Err Memory) = Unit {0}
+
+-- the same of a command: of one that compiles no message, the verdict on all that it reads says so
+abbrev pub TellsOfFiles : Command → List ℕ → List ℕ → End → Type 0
+TellsOfFiles (message verb codes_word id) r c end = TellsUpToMessage (RefusesUpToMessage codes_word id r c) (HasCompiledMessage (message verb codes_word id) r c) end
+TellsOfFiles command r c end = Unit {0}
 
 -- the sink is as it was
 abbrev pub LeavesOut : End → Type 0
@@ -87,6 +107,9 @@ pub record Performs {R C I O : Type 0} (ws : List (List ℕ)) (repo : Use R) (co
   pub sources : (command : Command) → HasCommandForm ws command → AreUsed (pulled_by command).repository (pulled_by command).codes (pulled_by command).instance (source_ended_of end) repo codes inst
   -- Where those sources tell their bytes, the end is the verdict on words and bytes.
   pub verdict : (r c i : List ℕ) → AreSourcesLeft ws (repo.left repo.old) (codes.left codes.old) (inst.left inst.old) r c i → TellsVerdict (Answer ws r c i) end (held old) (held new)
+  -- Where the repository tells its bytes, or it and its codes do, what is said of them is true, whatever the sources behind them tell.
+  pub repository_verdict : (r : List ℕ) → repo.left repo.old ≡ Some r → TellsOfRepository r end
+  pub files_verdict : (command : Command) → HasCommandForm ws command → (r c : List ℕ) → HasFilesTold command (repo.left repo.old) (codes.left codes.old) r c → TellsOfFiles command r c end
   -- Where something is refused, little was pulled of it behind bytes that show no fault yet, and nothing of what is read behind it.
   pub files_pulled : IfErr end (λ stop. StopsFilesSoon repo codes inst stop)
   pub instance_pulled : (r c : List ℕ) → AreFilesTold ws (repo.left repo.old) (codes.left codes.old) r c → IfErr end (λ stop. StopsInstanceSoon (λ i. Answer ws r c i) inst stop)

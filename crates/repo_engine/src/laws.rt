@@ -1,7 +1,7 @@
 //! What follows of the definitions: functions that do nothing, whose contracts are laws.
 ghost use Rattle.std.specs.Prelude.{◌≡◌, ℕ, List};
 ghost use Rattle.message_model.specs.Tables.{Tables};
-ghost use Rattle.repo_engine.specs.Answer.{Answer, FromMessage, GivesMessage, OfVerb};
+ghost use Rattle.repo_engine.specs.Answer.{Answer, FromMessage, GivesMessage, IsVerdictOfVerb};
 ghost use Rattle.repo_engine.specs.ModuleLaw.{ModuleAdmitsTheInstances, ModuleAdmitsWhatIsAccepted};
 ghost use Rattle.repo_engine.specs.RoundTrips.{XmlComesBack, DerComesBack};
 ghost use Rattle.repo_engine.specs.SchemaLaw.{SchemaAdmitsTheInstances, SchemaAdmitsWhatIsAccepted};
@@ -37,7 +37,7 @@ pub fn one_answer()
 
 /// Where the files give the tables of a message, a verdict on it is one on these tables.
 pub(crate) fn message_goes_on()
-    ensures { (verb : Verb) (codes_word id r c i : List ℕ) (T : Tables) (v : Verdict) → GivesMessage codes_word id r c T → FromMessage codes_word id r c (OfVerb verb i) v → OfVerb verb i T v }
+    ensures { (verb : Verb) (codes_word id r c i : List ℕ) (T : Tables) (v : Verdict) → GivesMessage codes_word id r c T → FromMessage codes_word id r c (IsVerdictOfVerb verb i) v → IsVerdictOfVerb verb i T v }
 {
     steps_are_apart();
 }

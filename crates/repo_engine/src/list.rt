@@ -6,7 +6,7 @@ ghost use Rattle.repo_loader.specs.Loaded.{Spells};
 ghost use Rattle.repo_engine.specs.inner.Arms.{FilesHaveLeft, StopsAtFiles};
 ghost use Rattle.repo_engine.specs.Answer.{FromRepository, Lists};
 ghost use Rattle.repo_engine.specs.Command.{hands_in};
-ghost use Rattle.repo_engine.specs.Run.{GoesOut, TellsVerdict};
+ghost use Rattle.repo_engine.specs.Run.{GoesOut, TellsOfRepository, TellsVerdict};
 ghost use Rattle.repo_engine.specs.Sources.{AreRead, source_ended_of, of_source};
 ghost use Rattle.repo_engine.specs.Texts.{list_text, message_line};
 
@@ -31,6 +31,7 @@ pub fn list<R: Source, C: Source, O: Sink>(
         (of_source R.left R.faults repo.old repo.new) (of_source C.left C.faults codes.old codes.new) }
     ensures pulled { IfErr result (λ stop. StopsAtFiles (of_source R.left R.faults repo.old repo.new) (of_source C.left C.faults codes.old codes.new) stop) }
     ensures codes_behind { (r : List ℕ) → R.left repo.old ≡ Some r → (codes.new ≡ codes.old) ⊎ ((own : Contents) × Spells r own) }
+    ensures repository { (r : List ℕ) → R.left repo.old ≡ Some r → TellsOfRepository r result }
     ensures verdict { (r c : List ℕ) → FilesHaveLeft codes_word.now (R.left repo.old) (C.left codes.old) r c →
         TellsVerdict (FromRepository codes_word.now r c Lists) result (O.held out.old) (O.held out.new) }
     ensures goes_out { GoesOut O.held O.faults out.old out.new result }

@@ -3,11 +3,11 @@ ghost use Rattle.std.specs.Prelude.{◌≡◌, ◌≢◌, ◌⊎◌, ℕ, List, 
 ghost use Rattle.repo_objects.specs.Repository.{Contents};
 ghost use Rattle.repo_loader.specs.Loaded.{Spells};
 ghost use Rattle.message_model.specs.Tables.{Tables};
-ghost use Rattle.repo_engine.specs.Answer.{FromMessage, GivesMessage, GivesTables, OfVerb, RefusesMessage};
-ghost use Rattle.repo_engine.specs.inner.Arms.{FilesHaveLeft, IsOfInput, IsReadAs, RefusesUpToMessage, StopsAtFiles, StopsAtInstance, StopsBy, ready_stop};
+ghost use Rattle.repo_engine.specs.Answer.{FromMessage, GivesMessage, GivesTables, IsVerdictOfVerb, RefusesMessage, RefusesUpToMessage};
+ghost use Rattle.repo_engine.specs.inner.Arms.{FilesHaveLeft, IsOfInput, IsReadAs, StopsAtFiles, StopsAtInstance, StopsBy, ready_stop};
 ghost use Rattle.repo_engine.specs.Command.{hands_in, reads_instance};
 ghost use Rattle.repo_engine.specs.Pulls.{StopsFilesSoon, StopsInstanceSoon};
-ghost use Rattle.repo_engine.specs.Run.{GoesOut, TellsVerdict};
+ghost use Rattle.repo_engine.specs.Run.{GoesOut, TellsOfRepository, TellsUpToMessage, TellsVerdict};
 ghost use Rattle.repo_engine.specs.Sources.{AreRead, AreReadInTurn, Failing, source_ended_of, of_source, stop_ended};
 
 use super::asn1::give_module;
@@ -44,13 +44,16 @@ pub fn message<R: Source, C: Source, I: Source, O: Sink>(
         (of_source R.left R.faults repo.old repo.new) (of_source C.left C.faults codes.old codes.new) (of_source I.left I.faults inst.old inst.new) }
     ensures files_pulled { IfErr result (λ stop. StopsFilesSoon (of_source R.left R.faults repo.old repo.new) (of_source C.left C.faults codes.old codes.new) (of_source I.left I.faults inst.old inst.new) stop) }
     ensures instance_pulled { (r c : List ℕ) → FilesHaveLeft codes_word.now (R.left repo.old) (C.left codes.old) r c →
-        IfErr result (λ stop. StopsInstanceSoon (λ i. FromMessage codes_word.now id.now r c (OfVerb verb i)) (of_source I.left I.faults inst.old inst.new) stop) }
+        IfErr result (λ stop. StopsInstanceSoon (λ i. FromMessage codes_word.now id.now r c (IsVerdictOfVerb verb i)) (of_source I.left I.faults inst.old inst.new) stop) }
     ensures codes_behind { (r : List ℕ) → R.left repo.old ≡ Some r → (codes.new ≡ codes.old) ⊎ ((own : Contents) × Spells r own) }
     ensures instance_behind { (r c : List ℕ) → FilesHaveLeft codes_word.now (R.left repo.old) (C.left codes.old) r c →
         (inst.new ≡ inst.old) ⊎ ((T : Tables) × GivesMessage codes_word.now id.now r c T) }
+    ensures repository { (r : List ℕ) → R.left repo.old ≡ Some r → TellsOfRepository r result }
+    ensures files { (r c : List ℕ) → FilesHaveLeft codes_word.now (R.left repo.old) (C.left codes.old) r c →
+        TellsUpToMessage (RefusesUpToMessage codes_word.now id.now r c) ((T : Tables) × GivesMessage codes_word.now id.now r c T) result }
     ensures verdict { (r c i : List ℕ) → FilesHaveLeft codes_word.now (R.left repo.old) (C.left codes.old) r c →
         (reads_instance verb ≡ true → I.left inst.old ≡ Some i) →
-        TellsVerdict (FromMessage codes_word.now id.now r c (OfVerb verb i)) result (O.held out.old) (O.held out.new) }
+        TellsVerdict (FromMessage codes_word.now id.now r c (IsVerdictOfVerb verb i)) result (O.held out.old) (O.held out.new) }
     ensures goes_out { GoesOut O.held O.faults out.old out.new result }
 {
     laws::message_goes_on();
@@ -79,6 +82,7 @@ fn read_message<R: Source, C: Source>(
         (of_source R.left R.faults repo.old repo.new) (of_source C.left C.faults codes.old codes.new) }
     ensures pulled { IfErr result (λ stop. StopsAtFiles (of_source R.left R.faults repo.old repo.new) (of_source C.left C.faults codes.old codes.new) stop) }
     ensures codes_behind { (r : List ℕ) → R.left repo.old ≡ Some r → (codes.new ≡ codes.old) ⊎ ((own : Contents) × Spells r own) }
+    ensures repository { (r : List ℕ) → R.left repo.old ≡ Some r → IfErr result (λ stop. TellsOfRepository r (Err stop)) }
 {
     match read_repository(alloc, codes_word, repo, codes) {
         Ok(repository) => compile(alloc, &repository, id),
@@ -119,9 +123,9 @@ fn on_model<I: Source, O: Sink>(
     requires { IsTrue (I.may_be_pulled inst.old) }
     ensures no_words { result ≢ Err (Stop.Refused Refusal.Words) }
     ensures source { IsReadAs (reads_instance verb) (source_ended_of result) (of_source I.left I.faults inst.old inst.new) }
-    ensures pulled { IfErr result (λ stop. StopsAtInstance (λ i. OfVerb verb i model.now) (of_source I.left I.faults inst.old inst.new) stop) }
+    ensures pulled { IfErr result (λ stop. StopsAtInstance (λ i. IsVerdictOfVerb verb i model.now) (of_source I.left I.faults inst.old inst.new) stop) }
     ensures verdict { (i : List ℕ) → (reads_instance verb ≡ true → I.left inst.old ≡ Some i) →
-        TellsVerdict (OfVerb verb i model.now) result (O.held out.old) (O.held out.new) }
+        TellsVerdict (IsVerdictOfVerb verb i model.now) result (O.held out.old) (O.held out.new) }
     ensures goes_out { GoesOut O.held O.faults out.old out.new result }
 {
     match verb {

@@ -1,12 +1,13 @@
 //! A repository and its external codes, read from their sources.
-ghost use Rattle.std.specs.Prelude.{◌≡◌, ◌⊎◌, List, ℕ, true, Option, Some, IfOk, IfErr, IsTrue};
+ghost use Rattle.std.specs.Prelude.{◌≡◌, ◌⊎◌, List, ℕ, true, Option, Some, Err, IfOk, IfErr, IsTrue};
 ghost use Rattle.repo_objects.specs.Repository.{Contents};
 ghost use Rattle.repo_loader.specs.Loaded.{Spells};
 ghost use Rattle.code_sets.specs.Codes.{Joins};
 ghost use Rattle.code_sets.specs.CodesErrors.{AreCodes, AreCodesPulled};
-ghost use Rattle.repo_engine.specs.Answer.{GivesJoined, GivesRepository, IsCodesRefusal, RefusesCodes, TellsFileFault};
-ghost use Rattle.repo_engine.specs.inner.Arms.{FilesHaveLeft, IsOfInput, IsReadIf, RefusesRepository, IsCodesText, StopsAtCodes, StopsAtFiles, StopsAtRepository, StopsBy, codes_stop, load_stop};
+ghost use Rattle.repo_engine.specs.Answer.{GivesJoined, GivesRepository, IsCodesRefusal, RefusesCodes, TellsFileFault, RefusesRepository};
+ghost use Rattle.repo_engine.specs.inner.Arms.{FilesHaveLeft, IsOfInput, IsReadIf, IsCodesText, StopsAtCodes, StopsAtFiles, StopsAtRepository, StopsBy, codes_stop, load_stop};
 ghost use Rattle.repo_engine.specs.Command.{hands_in};
+ghost use Rattle.repo_engine.specs.Run.{TellsOfRepository};
 ghost use Rattle.repo_engine.specs.Sources.{AreRead, Failing, IsSourceRead, source_ended_of, of_source, stop_ended};
 
 use super::refusal::{Refusal, Stop};
@@ -35,6 +36,7 @@ pub fn read_repository<R: Source, C: Source>(
         (of_source R.left R.faults repo.old repo.new) (of_source C.left C.faults codes.old codes.new) }
     ensures pulled { IfErr result (λ stop. StopsAtFiles (of_source R.left R.faults repo.old repo.new) (of_source C.left C.faults codes.old codes.new) stop) }
     ensures codes_behind { (r : List ℕ) → R.left repo.old ≡ Some r → (codes.new ≡ codes.old) ⊎ ((own : Contents) × Spells r own) }
+    ensures repository { (r : List ℕ) → R.left repo.old ≡ Some r → IfErr result (λ stop. TellsOfRepository r (Err stop)) }
 {
     match load_file(alloc, repo) {
         Ok(own) => with_codes(alloc, codes_word, own, codes),

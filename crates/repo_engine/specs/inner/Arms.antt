@@ -23,10 +23,10 @@ use Rattle.transcoder.specs.declared.trans_error.TransError.TheVariants as trans
 use Rattle.repo_engine.specs.declared.refusal.Stop.{Stop}
 use Rattle.repo_engine.specs.declared.refusal.Stop.TheVariants.{Refused, ReadFault, WriteFault, Memory}
 use Rattle.repo_engine.specs.declared.refusal.Refusal.TheVariants.{Words, Repository, Codes, Message, Instance}
-use Rattle.repo_engine.specs.Answer.{Of, HasCompiledMessage, TellsFileFault, RefusesCodes, RefusesMessage, GivesRepository}
+use Rattle.repo_engine.specs.Answer.{IsVerdictOf, HasCompiledMessage}
 use Rattle.repo_engine.specs.Command.{Command, pulled_by, hands_in}
 use Rattle.repo_engine.specs.Pulls.{HadShownNone, StopsFilesSoon, StopsInstanceSoon}
-use Rattle.repo_engine.specs.Run.{End, GoesOut, HasFilesTold, HaveLeft, TellsVerdict}
+use Rattle.repo_engine.specs.Run.{End, GoesOut, HasFilesTold, HaveLeft, TellsOfFiles, TellsOfRepository, TellsVerdict}
 use Rattle.repo_engine.specs.Sources.{Use, AreUsed, Ended, IsSourceRead, Untouched, Failing, Refusing, Whole, source_ended_of}
 use Rattle.repo_engine.specs.Verdict.{Verdict, refused}
 
@@ -36,9 +36,11 @@ pub record Carries {R C I O : Type 0} (command : Command) (repo : Use R) (codes 
   pub no_words : end ≢ Err (Refused Words)
   pub sources : AreUsed (pulled_by command).repository (pulled_by command).codes (pulled_by command).instance (source_ended_of end) repo codes inst
   pub verdict : (r c i : List ℕ) → HaveLeft command (repo.left repo.old) (codes.left codes.old) (inst.left inst.old) r c i
-      → TellsVerdict (Of command r c i) end (held old) (held new)
+      → TellsVerdict (IsVerdictOf command r c i) end (held old) (held new)
+  pub repository_verdict : (r : List ℕ) → repo.left repo.old ≡ Some r → TellsOfRepository r end
+  pub files_verdict : (r c : List ℕ) → HasFilesTold command (repo.left repo.old) (codes.left codes.old) r c → TellsOfFiles command r c end
   pub files_pulled : IfErr end (λ stop. StopsFilesSoon repo codes inst stop)
-  pub instance_pulled : (r c : List ℕ) → HasFilesTold command (repo.left repo.old) (codes.left codes.old) r c → IfErr end (λ stop. StopsInstanceSoon (λ i. Of command r c i) inst stop)
+  pub instance_pulled : (r c : List ℕ) → HasFilesTold command (repo.left repo.old) (codes.left codes.old) r c → IfErr end (λ stop. StopsInstanceSoon (λ i. IsVerdictOf command r c i) inst stop)
   pub codes_behind : (r : List ℕ) → repo.left repo.old ≡ Some r → Untouched codes ⊎ ((own : Contents) × Spells r own)
   pub instance_behind : (r c : List ℕ) → HasFilesTold command (repo.left repo.old) (codes.left codes.old) r c → Untouched inst ⊎ HasCompiledMessage command r c
   pub out : GoesOut held faults old new end
@@ -142,10 +144,6 @@ pub data IsReadIf {S : Type 0} (asked : Bool) (ended : Ended) (u : Use S) : Type
   unasked : asked ≡ false → ended ≡ Whole → Untouched u → IsReadIf asked ended u
   asked : asked ≡ true → IsSourceRead ended u → IsReadIf asked ended u
 
--- why there is no repository with its codes
-abbrev pub RefusesRepository : List ℕ → List ℕ → List ℕ → Verdict → Type 0
-RefusesRepository codes_word r c v = TellsFileFault r v ⊎ ((own : Contents) × Spells r own × RefusesCodes codes_word own c v)
-
 -- the bytes that reading a repository with that word for its codes needs
 pub record FilesHaveLeft (codes_word : List ℕ) (repo_left codes_left : Option (List ℕ)) (r c : List ℕ) : Type 0 where
   pub repository : repo_left ≡ Some r
@@ -155,7 +153,3 @@ pub record FilesHaveLeft (codes_word : List ℕ) (repo_left codes_left : Option 
 pub data IsReadAs {S : Type 0} (reads : Bool) (ended : Ended) (u : Use S) : Type 0 where
   unread : reads ≡ false → ended ≢ Failing → ended ≢ Refusing → Untouched u → IsReadAs reads ended u
   read : reads ≡ true → IsSourceRead ended u → IsReadAs reads ended u
-
--- why there is no compiled message
-abbrev pub RefusesUpToMessage : List ℕ → List ℕ → List ℕ → List ℕ → Verdict → Type 0
-RefusesUpToMessage codes_word id r c v = RefusesRepository codes_word r c v ⊎ ((R : Contents) × GivesRepository codes_word r c R × RefusesMessage R id v)

@@ -1,5 +1,5 @@
 use Rattle.std.proofs.Common.{◌≡◌, true, refl}
-use Rattle.repo_engine.specs.Answer.{OfVerb}
+use Rattle.repo_engine.specs.Answer.{IsVerdictOfVerb}
 use Rattle.repo_engine.specs.inner.Arms.{unread, read}
 use Rattle.repo_engine.specs.Command.{reads_instance}
 use Rattle.repo_engine.specs.Sources.{of_source}
@@ -65,13 +65,13 @@ returns-in-DerToXml-clause-verdict g c i told =
     rw c.in-DerToXml.is (c.from_der.ensures.verdict i (told reads))
 
 pub returns-in-Types-clause-pulled : goal.returns-in-Types-clause-pulled
-returns-in-Types-clause-pulled g c = unrefused (λ i. OfVerb c.args.verb i c.args.model.now) (of_source g.I.Source.left g.I.Source.faults c.args.inst.now c.args.inst.now) c.give_types.result c.give_types.ensures.ends.0 c.give_types.ensures.ends.1
+returns-in-Types-clause-pulled g c = unrefused (λ i. IsVerdictOfVerb c.args.verb i c.args.model.now) (of_source g.I.Source.left g.I.Source.faults c.args.inst.now c.args.inst.now) c.give_types.result c.give_types.ensures.ends.0 c.give_types.ensures.ends.1
 
 pub returns-in-Xsd-clause-pulled : goal.returns-in-Xsd-clause-pulled
-returns-in-Xsd-clause-pulled g c = unrefused (λ i. OfVerb c.args.verb i c.args.model.now) (of_source g.I.Source.left g.I.Source.faults c.args.inst.now c.args.inst.now) c.give_schema.result c.give_schema.ensures.ends.0 c.give_schema.ensures.ends.1
+returns-in-Xsd-clause-pulled g c = unrefused (λ i. IsVerdictOfVerb c.args.verb i c.args.model.now) (of_source g.I.Source.left g.I.Source.faults c.args.inst.now c.args.inst.now) c.give_schema.result c.give_schema.ensures.ends.0 c.give_schema.ensures.ends.1
 
 pub returns-in-Asn1-clause-pulled : goal.returns-in-Asn1-clause-pulled
-returns-in-Asn1-clause-pulled g c = unrefused (λ i. OfVerb c.args.verb i c.args.model.now) (of_source g.I.Source.left g.I.Source.faults c.args.inst.now c.args.inst.now) c.give_module.result c.give_module.ensures.ends.0 c.give_module.ensures.ends.1
+returns-in-Asn1-clause-pulled g c = unrefused (λ i. IsVerdictOfVerb c.args.verb i c.args.model.now) (of_source g.I.Source.left g.I.Source.faults c.args.inst.now c.args.inst.now) c.give_module.result c.give_module.ensures.ends.0 c.give_module.ensures.ends.1
 
 pub returns-in-CheckXml-clause-pulled : goal.returns-in-CheckXml-clause-pulled
 returns-in-CheckXml-clause-pulled g c = rw c.in-CheckXml.is c.check.ensures.pulled
