@@ -23,7 +23,7 @@ use Rattle.xml_instances.specs.Levels.{Level, levels_after, levels_over}
 use Rattle.xml_instances.specs.EventFaults.{Broken, AreFine, FirstFault}
 use Rattle.xml_instances.specs.XmlFaults.{XmlFault, items_told}
 use Rattle.xml_instances.specs.Open.{IsOpen}
-use Rattle.xml_instances.specs.inner.Quick.{AreItemsTaken, IsRunTaken, IsOurs}
+use Rattle.xml_instances.specs.inner.Quick.{AreItemsTaken, IsRunTaken, IsOurs, PassAll}
 use Rattle.xml_instances.specs.inner.Fronts.{TagItemsTaken}
 use Rattle.xml_instances.specs.Checking.{HasFedXml, XmlStops, IsTold, TakesXmlFront, xml_fault_of, xml_bytes_fed}
 use Rattle.xml_instances.specs.declared.content.Content.{Content}
@@ -197,22 +197,30 @@ TagTold old new tag items name = (bytes : List ℕ) (told : List Placed) → Has
 abbrev pub TagShown : Tables → Content → Content → (Expanded → List Item) → List ℕ → Type 0
 TagShown T old new items name = (ls : List (Level ℕ)) (n : Expanded) → n.local ≡ name → IsOurs (message_of T) ls n → IsOpen old (message_of T) ls → MayShowName old.pieces old.innermost n → GoOn old.pieces new.pieces (EventsShow T ls (items n))
 
-pub front_tag : (T : Tables) (old new : XmlChecker) (piece name : List ℕ) (items : Expanded → List Item) (n : ℕ) → n ≤ length piece → xml_bytes_fed old + length piece ≤ 2 ^ 40 → TagTold old.reader new.reader (take n piece) items name → bytes_taken new.reader ≡ bytes_taken old.reader + n
-    → new.place ≡ min (old.place + n) (2 ^ 64 - 1) → new.events ≡ old.events → new.failed ≡ old.failed → TagItemsTaken {U = Unit {0}} (message_of T) old.content new.content items name (Ok tt)
-    → TagShown T old.content new.content items name → MayShow old.content.pieces old.content.innermost → TakesXmlFront T old new piece (Ok n)
-front_tag T old new piece name items n within room tells moved place events failed taken_are shown_are may = record { ok = ok; err = λ bytes h. tt; within = within; count = moved }
+-- events that are told together break no rule
+pub front_items : (T : Tables) (old new : XmlChecker) (piece : List ℕ) (n : ℕ) → n ≤ length piece → xml_bytes_fed old + length piece ≤ 2 ^ 40 → bytes_taken new.reader ≡ bytes_taken old.reader + n → new.place ≡ min (old.place + n) (2 ^ 64 - 1) → new.events ≡ old.events → new.failed ≡ old.failed
+    → ((bytes : List ℕ) (h : HasFedXml old T bytes) → (items : List Item) × HasTold new.reader (bytes ++ take n piece) (h.told ++ placed_at (length bytes) items) × PassAll (message_of T) (levels_over (message_of T) [] (items_told h.told)) items new.content
+    × GoOn old.content.pieces new.content.pieces (EventsShow T (levels_over (message_of T) [] (items_told h.told)) items)) → TakesXmlFront T old new piece (Ok n)
+front_items T old new piece n within room moved place events failed passes = record { ok = λ bytes h. of_items bytes h (passes bytes h); err = λ bytes h. tt; within = within; count = moved }
   where
     long : length (take n piece) ≡ n
     long = length-take-le n piece within
 
-    ok : (bytes : List ℕ) → HasFedXml old T bytes → HasFedXml new T (bytes ++ take n piece)
-    ok bytes h =
-        let told = items (name_behind h.told name) in
-        let t = taken_are (levels_over (message_of T) [] (items_told h.told)) (name_behind h.told name) refl (ours_behind (message_of T) h.told name h.fine) h.open_are in
-        more_fed T old new bytes (take n piece) (placed_at (length bytes) told) told h (tag_told (length bytes) told) (tells bytes h.told h.given) (moved ∙ ap (λ v. bytes_taken old.reader + v) (sym long))
-        (place ∙ place_more bytes (take n piece) old.place (bytes_taken old.reader) n h.placed h.counted (sym long) (omega (arith, within, room))) t.0 t.1
-        (shown_are (levels_over (message_of T) [] (items_told h.told)) (name_behind h.told name) refl (ours_behind (message_of T) h.told name h.fine) h.open_are
-        (may_show_name T h.told name old.content.text old.content.round.items old.content.innermost old.content.pieces h.fine h.open_are h.built may)) (events ∙ h.none) (failed ∙ h.sound)
+    of_items : (bytes : List ℕ) (h : HasFedXml old T bytes) → ((items : List Item) × HasTold new.reader (bytes ++ take n piece) (h.told ++ placed_at (length bytes) items) × PassAll (message_of T) (levels_over (message_of T) [] (items_told h.told)) items new.content
+        × GoOn old.content.pieces new.content.pieces (EventsShow T (levels_over (message_of T) [] (items_told h.told)) items)) → HasFedXml new T (bytes ++ take n piece)
+    of_items bytes h (items, tells, taken, shown) =
+        more_fed T old new bytes (take n piece) (placed_at (length bytes) items) items h (tag_told (length bytes) items) tells (moved ∙ ap (λ v. bytes_taken old.reader + v) (sym long))
+        (place ∙ place_more bytes (take n piece) old.place (bytes_taken old.reader) n h.placed h.counted (sym long) (omega (arith, within, room))) taken.0 taken.1 shown (events ∙ h.none) (failed ∙ h.sound)
+
+pub front_tag : (T : Tables) (old new : XmlChecker) (piece name : List ℕ) (items : Expanded → List Item) (n : ℕ) → n ≤ length piece → xml_bytes_fed old + length piece ≤ 2 ^ 40 → TagTold old.reader new.reader (take n piece) items name → bytes_taken new.reader ≡ bytes_taken old.reader + n
+    → new.place ≡ min (old.place + n) (2 ^ 64 - 1) → new.events ≡ old.events → new.failed ≡ old.failed → TagItemsTaken {U = Unit {0}} (message_of T) old.content new.content items name (Ok tt)
+    → TagShown T old.content new.content items name → MayShow old.content.pieces old.content.innermost → TakesXmlFront T old new piece (Ok n)
+front_tag T old new piece name items n within room tells moved place events failed taken_are shown_are may = front_items T old new piece n within room moved place events failed
+    (λ bytes h.
+    let ls = levels_over (message_of T) [] (items_told h.told) in
+    let e = name_behind h.told name in
+    let ours = ours_behind (message_of T) h.told name h.fine in
+    (items e, tells bytes h.told h.given, taken_are ls e refl ours h.open_are, shown_are ls e refl ours h.open_are (may_show_name T h.told name old.content.text old.content.round.items old.content.innermost old.content.pieces h.fine h.open_are h.built may)))
 
 pub front_tag_stops : (T : Tables) (old new : XmlChecker) (piece name : List ℕ) (items : Expanded → List Item) (n : ℕ) (r : Refusal) (e : InstanceError) → EventsStay → TagTold old.reader new.reader (take n piece) items name
     → TagItemsTaken {U = Unit {0}} (message_of T) old.content new.content items name (Err r) → IsTold r old.place e → TakesXmlFront T old new piece (Err e)

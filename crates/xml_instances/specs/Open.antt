@@ -72,10 +72,10 @@ IsUnusedAt types n check = (simple : Simple) × (text_type (types n) ≡ Some si
 abbrev pub AreKept : Graph ℕ Simple → Checks → Type 0
 AreKept types checks = (n : ℕ) (check : Box Judge) → slice_get checks.entries.items n ≡ Some (Some check) → IsUnusedAt types n check.value
 
--- that of an open text was made for the type of its element
+-- an open text is one of a type with a text, and its judge was made for that
 abbrev pub IsTextMade : Graph ℕ Simple → Option OpenText → Type 0
 IsTextMade types None = Unit {0}
-IsTextMade types (Some t) = (simple : Simple) → text_type (types t.number) ≡ Some simple → IsJudgeMadeFor t.judge.value simple
+IsTextMade types (Some t) = ((simple : Simple) × (text_type (types t.number) ≡ Some simple)) × ((simple : Simple) → text_type (types t.number) ≡ Some simple → IsJudgeMadeFor t.judge.value simple)
 
 -- a text is open only where the innermost element has one
 abbrev pub IsTextInnermost : Option Opened → Option OpenText → Type 0

@@ -75,6 +75,12 @@ abbrev pub is_parent : Option Opened → Bool
 is_parent (Some (opened.Parent number last count)) = true
 is_parent o = false
 
+-- where this is the innermost element, one in an envelope may start, and this stands round it then
+abbrev pub IsRoundForeign : Option Opened → Opened → Type 0
+IsRoundForeign (Some opened.Foreign) round = round ≡ opened.Foreign
+IsRoundForeign (Some (opened.Envelope false)) round = round ≡ opened.Envelope true
+IsRoundForeign o round = ⊥
+
 -- the events of a start tag of this name
 abbrev pub start_events : Bool → List Entry → Expanded → List Item
 start_events is_empty entries n = start_tag_items (Some n) entries is_empty

@@ -285,7 +285,7 @@ impl XmlChecker {
         if tag.has_same_ns && self.content.is_in_parent() {
             self.take_inner_start(model, &tag)
         } else {
-            self.take_any_start(model, &tag)
+            self.take_other_start(model, &tag)
         }
     }
 
@@ -313,6 +313,30 @@ impl XmlChecker {
                 Ok(tag.bytes)
             }
             Err(refusal) => Err(told(refusal, self.place)),
+        }
+    }
+
+    /// Takes any start tag that the reader has taken: one in an envelope without its events, where it breaks no rule and no
+    /// pieces are kept.
+    fn take_other_start(
+        &mut self,
+        model: &Model,
+        tag: &StartTag<'_>,
+    ) -> Result<usize, InstanceError>
+        requires made { IsXmlCheckerFor self.old model.now }
+        ensures made { IsXmlCheckerFor self.new model.now }
+        ensures lean { KeepsNoLeaf self.old → KeepsNoLeaf self.new }
+        ensures front { (before : Reader) (piece : List ℕ) → HasTakenStart before self.old.reader piece tag.now → TakesXmlFront model.now (record self.old { reader = before }) self.new piece result }
+    {
+        match self.content.pass_foreign(tag.is_empty) {
+            Ok(done) => {
+                if done {
+                    self.place = self.place.saturating_add(tag.bytes as u64);
+                    return Ok(tag.bytes);
+                }
+                self.take_any_start(model, tag)
+            }
+            Err(_) => Err(InstanceError::Memory),
         }
     }
 

@@ -60,20 +60,21 @@ impl Content {
         code: u32,
         attrs: &[TagAttribute<'_>],
     ) -> Result<(), Refusal>
-        requires { AreMade (types_of model.now) self.old }
+        requires made { AreMade (types_of model.now) self.old }
+        requires code { IsCodeForm (types_of model.now code) }
         ensures made { AreMade (types_of model.now) self.new }
         ensures lean { IsLean self.old → IsLean self.new }
         ensures kept { self.new.innermost ≡ self.old.innermost }
         ensures round { self.new.round ≡ self.old.round }
         ensures text { self.new.text ≡ self.old.text }
-        ensures taken { IsCodeForm (types_of model.now code) → Says (CurrencyFault (types_of model.now code) (value_of currency (map tag_entry attrs.now)) (path_round (types_of model.now) self.old.round.items ++ codes "/@Ccy")) result }
-        ensures shown { IsCodeForm (types_of model.now code) → OnOk result (GoOn self.old.pieces self.new.pieces (CurrencyShown (types_of model.now code) (map tag_entry attrs.now))) }
+        ensures taken { Says (CurrencyFault (types_of model.now code) (value_of currency (map tag_entry attrs.now)) (path_round (types_of model.now) self.old.round.items ++ codes "/@Ccy")) result }
+        ensures shown { OnOk result (GoOn self.old.pieces self.new.pieces (CurrencyShown (types_of model.now code) (map tag_entry attrs.now))) }
     {
         let Some(value) = currency_of(attrs) else {
             return Err(self.refused(model, Rule::MissingAttribute, b"/@Ccy"));
         };
         let Some(simple) = model.text_type(code) else {
-            return Err(Refusal::Memory);
+            unreachable!()
         };
         match self.attribute_rule(model, code, simple, value) {
             Ok(rule) => self.answer(model, rule, b"/@Ccy"),

@@ -42,7 +42,7 @@ impl Content {
             return Err(AllocError);
         };
         let Some(simple) = model.text_type(open.number) else {
-            return Err(AllocError);
+            unreachable!()
         };
         let taken = take_character(&mut open.judge, simple, c);
         self.text = Some(open);
@@ -66,7 +66,7 @@ impl Content {
             return Err(Refusal::Memory);
         };
         let Some(simple) = model.text_type(open.number) else {
-            return Err(Refusal::Memory);
+            unreachable!()
         };
         let ended = ending_of(&open.judge, simple, &mut self.pieces);
         self.checks.keep(open.number, simple, open.judge);

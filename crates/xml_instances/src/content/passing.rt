@@ -1,9 +1,11 @@
 //! Tags that break no rule: taken without what a refusal needs.
 ghost use Rattle.std.specs.Prelude.{◌≡◌, ◌++◌, ◌∷◌, ℕ, List, [], IfOk, OnOk, IfSome, None, Some, true, false};
-ghost use Rattle.lexical_core.specs.Tree.{Expanded, Starts, Ends};
+ghost use Rattle.lexical_core.specs.Tree.{Expanded, Entry, Starts, Ends};
 ghost use Rattle.facets.specs.declared.simple.Simple.{Simple as SimpleType};
 ghost use Rattle.markup.specs.PlainTags.{tag_items};
+ghost use Rattle.reference_check.specs.Forms.{Graph};
 ghost use Rattle.reference_check.specs.Steps.{Came, EndsWith, Fine, end_after};
+ghost use Rattle.message_model.specs.Message.{Message};
 ghost use Rattle.message_model.specs.Tables.{message_of, types_of};
 ghost use Rattle.xml_instances.specs.Built.{EventShows, EventsShow, TextShown};
 ghost use Rattle.xml_instances.specs.Keeping.{GoOn};
@@ -11,7 +13,7 @@ ghost use Rattle.xml_instances.specs.Levels.{Level};
 ghost use Rattle.xml_instances.specs.Open.{IsOpen, AreMade, IsRuleOf, HoldsText, IsTextMade};
 ghost use Rattle.xml_instances.specs.EventFaults.{has_currency};
 ghost use Rattle.xml_instances.specs.declared.opened.Opened.TheVariants.{Text as OpenedText, Parent as OpenedParent};
-ghost use Rattle.xml_instances.specs.inner.Quick.{IsOurs, Passes, PassAll, IsTargetOf, IsTextTypeOf};
+ghost use Rattle.xml_instances.specs.inner.Quick.{IsOurs, Passes, PassAll, IsTargetOf, IsTextTypeOf, IsRoundForeign, start_events};
 ghost use Rattle.xml_instances.specs.Verdicts.{IsLean};
 
 use super::attributes::is_money;
@@ -89,6 +91,32 @@ impl Content {
             count,
         })?;
         self.begin(model, target)?;
+        Ok(true)
+    }
+
+    /// Takes a start tag of an element in an envelope, whatever its name and its attributes are, where it breaks no rule and
+    /// no pieces are kept. Else it answers false, and nothing changes.
+    pub(crate) fn pass_foreign(&mut self, is_empty: bool) -> Result<bool, AllocError>
+        ensures kept { IfOk result (λ done. done ≡ false → self.new ≡ self.old) }
+        ensures made { (types : Graph ℕ SimpleType) → AreMade types self.old → AreMade types self.new }
+        ensures lean { IsLean self.old → IsLean self.new }
+        ensures pieces { self.new.pieces ≡ self.old.pieces }
+        ensures bare { IfOk result (λ done. done ≡ true → self.old.pieces ≡ None) }
+        ensures taken { (m : Message ℕ) (ls : List (Level ℕ)) (n : Expanded) (attributes : List Entry) → IsOpen self.old m ls
+            → IfOk result (λ done. done ≡ true → PassAll m ls (start_events is_empty attributes n) self.new) }
+    {
+        if self.pieces.is_some() {
+            return Ok(false);
+        }
+        let Some(round) = round_foreign(self.innermost) else {
+            return Ok(false);
+        };
+        if is_empty {
+            self.innermost = Some(round);
+            return Ok(true);
+        }
+        self.push_round(round)?;
+        self.innermost = Some(Opened::Foreign);
         Ok(true)
     }
 
@@ -194,6 +222,17 @@ impl Content {
             self.checks.keep(open.number, simple, open.judge);
         }
         Ok(true)
+    }
+}
+
+/// What stands round an element that starts, where that is one in an envelope and may stand there.
+fn round_foreign(innermost: Option<Opened>) -> Option<Opened>
+    ensures { IfSome result (λ round. IsRoundForeign innermost round) }
+{
+    match innermost {
+        Some(Opened::Foreign) => Some(Opened::Foreign),
+        Some(Opened::Envelope { filled: false }) => Some(Opened::Envelope { filled: true }),
+        None | Some(Opened::Text | Opened::Envelope { .. } | Opened::Parent { .. }) => None,
     }
 }
 

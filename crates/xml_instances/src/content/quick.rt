@@ -246,7 +246,7 @@ impl OpenText {
             → OnOk result (HoldsText (message_of model.now) (Some self.new) simple (taken ++ r.characters)) }
     {
         let Some(simple) = model.text_type(self.number) else {
-            return Err(AllocError);
+            unreachable!()
         };
         take_run(&mut self.judge, simple, run, count)
     }

@@ -27,7 +27,7 @@ returns-then-is_in_parent-clause-front c =
 
 pub returns-clause-front : goal.returns-clause-front
 returns-clause-front c =
-    c.take_any_start.ensures.front c.args.self.now.reader c.args.piece.now
+    c.take_other_start.ensures.front c.args.self.now.reader c.args.piece.now
     (start_taken c.args.self.now.reader c.take_start_tag.new.self c.args.piece.now c.in-Ok-Some.field-0 c.in-Ok-Some.tag c.in-Ok-Some.field-0-is c.in-Ok-Some.ensures.within c.requires.room
     (λ bytes told h. c.in-Ok-Some.ensures.taken _ bytes told h) (λ bytes told h. c.in-Ok-Some.ensures.same_ns _ bytes told h) c.in-Ok-Some.ensures.count)
 
