@@ -8,6 +8,7 @@ use data_types::LeafRef;
 use inst_pool::{Builder, Edge, Instance, Piece};
 use lexical_core::Decimal;
 use std::alloc::AllocError;
+use std::process::Abort;
 use std::test::Fail;
 
 const NOTE: Edge = Edge {
@@ -39,6 +40,14 @@ fn add_note(builder: &mut Builder, text: &[u8]) -> Result<(), AllocError>
     ensures { OnOk result (open_in builder.new.pieces ≡ []) }
 {
     builder.reserve(3, text.len())?;
+    add_element(builder, text)
+}
+
+// The same by the room that there is.
+fn add_element(builder: &mut Builder, text: &[u8]) -> Result<(), AllocError>
+    requires { builder.old.pieces ≡ [] }
+    ensures { OnOk result (open_in builder.new.pieces ≡ []) }
+{
     builder.begin(NOTE)?;
     add_leaf(builder, text, None)?;
     builder.close()?;
@@ -55,9 +64,8 @@ fn is_piece(number: usize, piece: &Piece<'_>) -> bool {
     }
 }
 
-#[test]
-fn an_instance_is_walked_and_its_room_used_again(rt: HostRuntime) -> Result<(), Fail> {
-    let instance = note(Builder::new(rt.alloc()), b"ab".as_slice())?;
+// Asserts that the instance is that element with the text `ab`.
+fn expect_note(rt: &impl Abort, instance: &Instance) {
     assert_eq!(rt; instance.count(), 3);
     let mut walk = instance.walk();
     for number in 0..3 {
@@ -67,7 +75,16 @@ fn an_instance_is_walked_and_its_room_used_again(rt: HostRuntime) -> Result<(), 
         }
     }
     assert!(rt; walk.next().is_none());
-    let again = note(instance.reset(), b"cd".as_slice())?;
-    assert_eq!(rt; again.count(), 3);
+}
+
+#[test]
+fn an_instance_is_walked_and_its_room_used_again(rt: HostRuntime) -> Result<(), Fail> {
+    let instance = note(Builder::new(rt.alloc()), b"ab".as_slice())?;
+    expect_note(&rt, &instance);
+    // Its room is kept, so that none is reserved.
+    let mut builder = instance.reset();
+    add_element(&mut builder, b"ab".as_slice())?;
+    let again = builder.finish();
+    expect_note(&rt, &again);
     Ok(())
 }
