@@ -1,4 +1,4 @@
-//! What a type is.
+//! The text behind `::=` of a type.
 ghost use Rattle.std.specs.Prelude.{◌∷◌, [], codes};
 ghost use Rattle.std.specs.List.{concat};
 ghost use Rattle.outside.specs.Pushes.{Pushes};

@@ -1,4 +1,4 @@
-//! What the elements of a repository file are.
+//! `part_in`: which `Part` an element is, by its name and the part round it.
 ghost use Rattle.std.specs.Prelude.{◌≡◌, List, map};
 ghost use Rattle.lexical_core.specs.Tree.{Entry as Attribute};
 ghost use Rattle.markup.specs.TagAttributes.{tag_entry};

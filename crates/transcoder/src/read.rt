@@ -1,4 +1,4 @@
-//! An instance, read as it comes from a source, and kept as pieces.
+//! `read_xml` and `read_der`: an instance, read as it comes from a source, and kept as pieces.
 ghost use Rattle.std.specs.Prelude.{◌≡◌, ◌≤◌, ℕ, List, IfOk, IfErr, IfSome, OnOk, IsErrOf, IsTrue, length};
 ghost use Rattle.std.specs.Io.KnownBytes.{IsAtEnd};
 ghost use Rattle.lexical_core.specs.declared.rule.Rule.TheVariants.{Truncated, DerTruncated};

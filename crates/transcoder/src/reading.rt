@@ -1,4 +1,4 @@
-//! An instance, read as it comes from a source.
+//! `read_instance`: pulls pieces within 2^40 bytes from a source, and feeds them to what takes them in.
 ghost use Rattle.std.specs.Prelude.{◌≡◌, ◌<◌, ◌≤◌, ℕ, List, [], IfOk, IfErr, IfSome, OnOk, IsErrOf, IsTrue, length, codes};
 ghost use Rattle.std.specs.Io.KnownBytes.{Consumes, IsAtEnd};
 ghost use Rattle.outside.specs.Pulls.{StopsSoon, pull_limit};
