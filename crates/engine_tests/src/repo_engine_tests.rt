@@ -8,7 +8,7 @@ use std::process::Abort;
 use std::test::Fail;
 
 /// The repository of a note: one entry, one block.
-pub(crate) const NOTE: &[u8] =
+const NOTE: &[u8] =
     b"<iso20022:Repository xmlns:iso20022=\"urn:iso:std:iso:20022:2013:ecore\" xmlns:xmi=\"http://www.omg.org/XMI\" xmlns:xsi=\"http://www.w3.org/2001/XMLSchema-instance\">\n<dataDictionary>\n<topLevelDictionaryEntry xsi:type=\"iso20022:Text\" xmi:id=\"_t\" name=\"Max35Text\" minLength=\"1\" maxLength=\"35\"/>\n</dataDictionary>\n<businessProcessCatalogue><topLevelCatalogueEntry>\n<messageDefinition name=\"NoteV01\" xmlTag=\"Note\">\n<messageBuildingBlock name=\"Identification\" xmlTag=\"Id\" minOccurs=\"1\" maxOccurs=\"1\" simpleType=\"_t\"/>\n<messageDefinitionIdentifier businessArea=\"demo\" messageFunctionality=\"001\" flavour=\"001\" version=\"01\"/>\n</messageDefinition>\n</topLevelCatalogueEntry></businessProcessCatalogue>\n</iso20022:Repository>\n";
 
 /// The instance of a note.
@@ -27,8 +27,6 @@ const CHECK: [&str; 4] = ["check-xml", "P", "-", "demo.001.001.01"];
 const OTHER: [&str; 4] = ["check-xml", "P", "-", "demo.009.001.01"];
 
 const SHORT: [&str; 3] = ["check-xml", "P", "-"];
-
-const TO_DER: [&str; 4] = ["xml-to-der", "P", "-", "demo.001.001.01"];
 
 const LIST: [&str; 3] = ["list", "P", "-"];
 
@@ -289,21 +287,6 @@ fn faults_of_sinks(rt: HostRuntime) -> Result<(), Fail> {
     );
     let outcome = outcome_of_pushes(rt.alloc(), A1, first, first)?;
     expect_outcome(&rt, &outcome, Status::WriteFault, nothing, nothing);
-    // Nor can DER.
-    let outcome = outcome_of(
-        rt.alloc(),
-        TO_DER.as_slice(),
-        A1,
-        64,
-        failing_of(first, none),
-    )?;
-    expect_outcome(
-        &rt,
-        &outcome,
-        Status::WriteFault,
-        nothing,
-        b"failed: write\n".as_slice(),
-    );
     // A refusal cannot be noted.
     let outcome = outcome_of_pushes(rt.alloc(), EMPTY, none, first)?;
     expect_outcome(&rt, &outcome, Status::WriteFault, nothing, nothing);
