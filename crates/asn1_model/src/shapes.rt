@@ -113,6 +113,7 @@ fn plain(alloc: Global, simple: &Simple) -> Result<AsnShape, AllocError>
     Ok(AsnShape::Plain(simple.kind, step_of(alloc, simple), pattern))
 }
 
+/// The text of the pattern; `None` where there is none.
 fn pattern_of(alloc: Global, simple: &Simple) -> Result<Option<Text>, AllocError>
     ensures { IfOk result (λ pattern. pattern ≡ simple.now.pattern) }
 {

@@ -48,6 +48,7 @@ struct Field {
     spot: Spot,
 }
 
+/// A tag that may not stand here, which adds nothing to the path.
 fn unexpected() -> Found
     ensures { result ≡ Found.Breaks Rule.UnexpectedTag Added.Nothing }
 {
@@ -78,6 +79,7 @@ fn in_fields(model: &Model, number: u32, next: u32, id: Identifier) -> Found
     }
 }
 
+/// This slot of the type has to come before; its tag is added to the path.
 fn missing(parent: u32, slot: u32) -> Found
     ensures { result ≡ Found.Breaks Rule.DerMissing (Added.Slot parent slot) }
 {

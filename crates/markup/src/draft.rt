@@ -166,6 +166,7 @@ impl Draft {
         }
     }
 
+    /// The character that a reference gives with its last one, as it is; before that nothing.
     fn note_reference(&mut self, scan: ReferenceScan, c: char) -> Result<(), AllocError>
         ensures { OnOk result (self.new ≡ add_value (given_char scan c) self.old) }
     {

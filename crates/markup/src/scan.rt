@@ -206,6 +206,7 @@ impl Position {
 }
 
 impl NameScan {
+    /// In a name: it goes on, or ends before the character; behind its colon it can only go on.
     pub(crate) fn step(self, c: char) -> NameTurn
         ensures { result ≡ name_step self c }
     {

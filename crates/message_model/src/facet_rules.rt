@@ -38,6 +38,7 @@ fn is_out_of_bounds(facets: &RawFacets) -> bool
     has_bad_lengths(facets) || has_bad_digits(facets) || has_bad_bounds(facets)
 }
 
+/// Whether a least length is above a greatest; `length` is both.
 fn has_bad_lengths(facets: &RawFacets) -> bool
     ensures { IsTrue result ↔ HasBadLengths facets.now }
 {
@@ -56,6 +57,7 @@ fn is_above(low: Option<u32>, high: Option<u32>) -> bool
     }
 }
 
+/// Whether there is no digit, or more than 18, or more after the point than there are in all.
 fn has_bad_digits(facets: &RawFacets) -> bool
     ensures { IsTrue result ↔ HasBadDigits facets.now }
 {
@@ -73,6 +75,7 @@ pub(crate) fn most_digits(total: Option<u32>) -> u32
     }
 }
 
+/// Whether one side has an inclusive and a strict bound, or no number is between a lower and an upper one.
 fn has_bad_bounds(facets: &RawFacets) -> bool
     ensures { IsTrue result ↔ HasBadBounds facets.now }
 {

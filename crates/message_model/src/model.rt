@@ -314,6 +314,7 @@ fn after(at: u32, due: Option<u32>) -> Next
     }
 }
 
+/// What the tag is in a choice.
 #[tactic(auto, using(crate::proofs::Views::slice_get_map))]
 fn choice_next(
     slots: &[SlotInfo],
@@ -461,6 +462,7 @@ fn layout_end(layout: &Layout, last: Option<u32>, count: u64) -> End
     }
 }
 
+/// The slot of this number; `None` where there is none.
 #[tactic(auto, using(crate::proofs::Views::slice_get_map))]
 fn slot_of(slots: &[SlotInfo], at: u32) -> Option<Slot<'_>>
     ensures { slot_view result ≡ slice_get (slots_view slots.now) at }

@@ -23,6 +23,7 @@ pub(crate) fn number_places(
     Ok(numbers)
 }
 
+/// Puts 2 at the first of these places, 3 at the next, and so on.
 fn write_numbers(numbers: &mut [u32], places: &[usize])
     requires within { All (λ k. k < length numbers.old) places.now }
     requires rising { AllPairs (λ i j. i < j) places.now }

@@ -205,6 +205,7 @@ impl Builder {
         }
     }
 
+    /// All instructions of the code.
     fn into_code(self, alloc: Global) -> Result<Vec<Instruction>, AllocError>
         ensures { IfOk result (λ v. v.items ≡ live self.cells) }
     {
@@ -220,6 +221,7 @@ impl Builder {
         code.code(alloc)
     }
 
+    /// Goes on with the atom whose token has the number `at`.
     fn push_atom(&mut self, at: usize) -> Result<(), AllocError>
         requires { AreBegun self.old.cells self.old.groups }
         ensures built { OnOk result (self.new.built ≡ after_atom at self.old.built) }
@@ -237,6 +239,7 @@ impl Builder {
         Ok(())
     }
 
+    /// Begins a group, and keeps what is built around it.
     fn open(&mut self) -> Result<(), AllocError>
         requires { AreBegun self.old.cells self.old.groups }
         ensures built { OnOk result (self.new.built ≡ after_open self.old.built) }
@@ -265,6 +268,7 @@ impl Builder {
         Ok(())
     }
 
+    /// Ends a branch of the innermost group; one of which nothing is kept is left out.
     fn bar(&mut self) -> Result<(), AllocError>
         requires { AreBegun self.old.cells self.old.groups }
         ensures built { OnOk result (self.new.built ≡ after_bar self.old.built) }
@@ -282,6 +286,7 @@ impl Builder {
         Ok(())
     }
 
+    /// Ends the innermost group, which is then the last piece of the one around it.
     fn close(&mut self) -> Result<(), AllocError>
         requires { AreBegun self.old.cells self.old.groups }
         ensures built { OnOk result (self.new.built ≡ after_close self.old.built) }
@@ -303,6 +308,7 @@ impl Builder {
         Ok(())
     }
 
+    /// Repeats the last piece, as the bounds say.
     fn repeat(&mut self, alloc: Global, least: u64, most: Option<u64>) -> Result<(), AllocError>
         requires { MayRepeatLast self.old }
         ensures built { OnOk result (self.new.built ≡ after_times least most self.old.built) }

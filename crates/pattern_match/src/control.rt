@@ -51,6 +51,7 @@ pub const FULL: u64 = 1_000_000_000;
 /// The greatest character that has an escape: `}`.
 const LAST_ESCAPED: char = '}';
 
+/// From the start of a piece: no quantifier stands there.
 fn next_outside(meaning: Outside) -> Option<Control>
     ensures { result ≡ outside_next meaning }
 {
@@ -63,6 +64,7 @@ fn next_outside(meaning: Outside) -> Option<Control>
     }
 }
 
+/// From behind an atom: to a quantifier, or on as from the start of a piece.
 fn next_atom(meaning: Outside) -> Option<Control>
     ensures { result ≡ atom_next meaning }
 {
@@ -76,6 +78,7 @@ fn next_atom(meaning: Outside) -> Option<Control>
     }
 }
 
+/// From behind a backslash outside a class: each escape is an atom.
 fn next_escape(meaning: BehindBackslash) -> Option<Control>
     ensures { result ≡ escape_next meaning }
 {
@@ -85,6 +88,7 @@ fn next_escape(meaning: BehindBackslash) -> Option<Control>
     }
 }
 
+/// In the first bound: it has one digit to nine, and a comma or the closing brace behind them.
 fn next_least(weight: u64, value: u64, meaning: InNumber) -> Option<Control>
     requires { HasRoomForDigits weight value }
     ensures { result ≡ least_next weight value meaning }
@@ -109,6 +113,7 @@ fn next_least(weight: u64, value: u64, meaning: InNumber) -> Option<Control>
     }
 }
 
+/// In the second bound: some number of nine digits at most goes on so and is not below the first, or none is given.
 fn next_most(least: u64, weight: u64, value: u64, meaning: InNumber) -> Option<Control>
     requires { HasRoomForDigits weight value }
     ensures { result ≡ most_next least weight value meaning }
@@ -135,6 +140,7 @@ fn next_most(least: u64, weight: u64, value: u64, meaning: InNumber) -> Option<C
     }
 }
 
+/// From where the first item of a class begins: a hyphen is an item, and no bracket closes the class.
 fn next_class_first(meaning: Within, c: char) -> Option<Control>
     ensures { result ≡ class_first_next meaning c }
 {
@@ -146,6 +152,7 @@ fn next_class_first(meaning: Within, c: char) -> Option<Control>
     }
 }
 
+/// From where an item of a class may begin: a hyphen ends the class.
 fn next_class_item(meaning: Within, c: char) -> Option<Control>
     ensures { result ≡ class_item_next meaning c }
 {
@@ -158,6 +165,7 @@ fn next_class_item(meaning: Within, c: char) -> Option<Control>
     }
 }
 
+/// From behind a single of a class: a hyphen may make it the start of a range.
 fn next_class_single(low: char, meaning: Within, c: char) -> Option<Control>
     ensures { result ≡ class_single_next low meaning c }
 {
@@ -170,6 +178,7 @@ fn next_class_single(low: char, meaning: Within, c: char) -> Option<Control>
     }
 }
 
+/// From behind a single and a hyphen: to the end of a range, which is not below its start, or the end of the class.
 fn next_class_dash(low: char, meaning: Within, c: char) -> Option<Control>
     ensures { result ≡ class_dash_next low meaning c }
 {
@@ -181,6 +190,7 @@ fn next_class_dash(low: char, meaning: Within, c: char) -> Option<Control>
     }
 }
 
+/// From behind a hyphen that ends a class: to the closing bracket alone.
 fn next_class_end(meaning: Within) -> Option<Control>
     ensures { result ≡ class_end_next meaning }
 {
@@ -190,6 +200,7 @@ fn next_class_end(meaning: Within) -> Option<Control>
     }
 }
 
+/// From behind a backslash in a class: a letter makes a single, which may begin a range, and `s` does not.
 fn next_class_escape(meaning: BehindBackslash, c: char) -> Option<Control>
     ensures { result ≡ class_escape_next meaning c }
 {
@@ -202,6 +213,7 @@ fn next_class_escape(meaning: BehindBackslash, c: char) -> Option<Control>
     }
 }
 
+/// From behind a backslash where a range ends: to a letter whose character is not below the start of the range.
 fn next_range_escape(low: char, meaning: BehindBackslash, c: char) -> Option<Control>
     ensures { result ≡ range_escape_next low meaning c }
 {
@@ -243,6 +255,7 @@ pub fn control_after(control: Control, c: char) -> Option<Control>
     }
 }
 
+/// How many groups are open behind a character outside a class, or none where none is open to be closed.
 fn depth_outside_after(meaning: Outside, depth: u64) -> Option<u64>
     requires { depth < 2 ^ 63 }
     ensures { result ≡ depth_outside meaning depth }
@@ -254,6 +267,7 @@ fn depth_outside_after(meaning: Outside, depth: u64) -> Option<u64>
     }
 }
 
+/// How many groups are open behind `c`, or none where none is open to be closed.
 fn groups_after(control: Control, c: char, depth: u64) -> Option<u64>
     requires { depth < 2 ^ 63 }
     ensures { result ≡ depth_after control c depth }

@@ -57,12 +57,14 @@ impl Counter {
         })
     }
 
+    /// The positions of the innermost group, up to one more than the limit.
     fn sum(&self) -> u64
         ensures { result ≡ counted_sum self.now.counted }
     {
         capped_sum(self.total, self.last)
     }
 
+    /// Goes on with an atom, which has one position.
     fn add_atom(&mut self)
         ensures counted { self.new.counted ≡ counted_atom self.old.counted }
         ensures room { self.old.room ≤ self.new.room }
@@ -71,6 +73,7 @@ impl Counter {
         self.last = 1;
     }
 
+    /// Begins a group, for which there has to be room.
     fn open(&mut self)
         requires { length self.old.counted.outer < self.old.room }
         ensures counted { self.new.counted ≡ counted_open self.old.counted }
@@ -85,6 +88,7 @@ impl Counter {
         self.last = 0;
     }
 
+    /// Ends a branch of the innermost group, whose positions count on.
     fn bar(&mut self)
         ensures counted { self.new.counted ≡ counted_bar self.old.counted }
         ensures room { self.old.room ≤ self.new.room }
@@ -93,6 +97,7 @@ impl Counter {
         self.last = 0;
     }
 
+    /// Ends the innermost group, which is then the last piece of the one around it.
     fn close(&mut self)
         ensures counted { self.new.counted ≡ counted_close self.old.counted }
         ensures room { self.old.room ≤ self.new.room }
@@ -104,6 +109,7 @@ impl Counter {
         }
     }
 
+    /// Counts the last piece as often as copies of it are kept, up to one more than the limit.
     fn repeat(&mut self, least: u64, most: Option<u64>)
         ensures counted { self.new.counted ≡ counted_times least most self.old.counted }
         ensures room { self.old.room ≤ self.new.room }

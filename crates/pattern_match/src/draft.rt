@@ -136,6 +136,7 @@ impl Draft {
         }
     }
 
+    /// Puts an instruction behind the last.
     pub fn push(&mut self, instruction: Instruction) -> Result<(), AllocError>
         ensures cells { OnOk result (self.new ≡ self.old ++ Some instruction ∷ []) }
         ensures code { OnOk result (live self.new ≡ live self.old ++ instruction ∷ []) }

@@ -49,6 +49,7 @@ impl Flow {
         self.live
     }
 
+    /// Sets whether a word may go on here.
     pub fn set_live(&mut self, live: bool)
         ensures live { self.new.live ≡ live }
         ensures frames { self.new.frames ≡ self.old.frames }

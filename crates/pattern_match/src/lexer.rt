@@ -10,6 +10,7 @@ use crate::control::{Control, FULL, control_after};
 use crate::token::Token;
 use std::alloc::{AllocError, Global};
 
+/// Pushes the token of a character at the start of a piece, if it is one by itself.
 fn push_outside(tokens: &mut Vec<Token>, meaning: Outside, c: char) -> Result<(), AllocError>
     ensures { OnOk result (tokens.new.items ≡ tokens.old.items ++ outside_tokens meaning c) }
 {
@@ -24,6 +25,7 @@ fn push_outside(tokens: &mut Vec<Token>, meaning: Outside, c: char) -> Result<()
     Ok(())
 }
 
+/// Pushes the token of a character behind an atom: that of a quantifier, or as at the start of a piece.
 fn push_behind_atom(tokens: &mut Vec<Token>, meaning: Outside, c: char) -> Result<(), AllocError>
     ensures { OnOk result (tokens.new.items ≡ tokens.old.items ++ behind_atom_tokens meaning c) }
 {
@@ -45,6 +47,7 @@ fn push_behind_atom(tokens: &mut Vec<Token>, meaning: Outside, c: char) -> Resul
     Ok(())
 }
 
+/// Pushes the token of an escape outside a class.
 fn push_escape(tokens: &mut Vec<Token>, meaning: BehindBackslash, c: char) -> Result<(), AllocError>
     ensures { OnOk result (tokens.new.items ≡ tokens.old.items ++ escape_tokens meaning c) }
 {
@@ -56,6 +59,7 @@ fn push_escape(tokens: &mut Vec<Token>, meaning: BehindBackslash, c: char) -> Re
     Ok(())
 }
 
+/// Pushes the quantifier of one bound, where the character closes it: so many and no more.
 fn push_least(tokens: &mut Vec<Token>, value: u64, meaning: InNumber) -> Result<(), AllocError>
     ensures { OnOk result (tokens.new.items ≡ tokens.old.items ++ least_tokens value meaning) }
 {
@@ -68,6 +72,7 @@ fn push_least(tokens: &mut Vec<Token>, value: u64, meaning: InNumber) -> Result<
     Ok(())
 }
 
+/// Pushes the quantifier of two bounds, where the character closes them; without digits the second is none.
 fn push_most(
     tokens: &mut Vec<Token>,
     least: u64,
@@ -84,6 +89,7 @@ fn push_most(
     Ok(())
 }
 
+/// Pushes the member that a character is where an item of a class may begin, if it is one.
 fn push_item(tokens: &mut Vec<Token>, meaning: Within, c: char) -> Result<(), AllocError>
     ensures { OnOk result (tokens.new.items ≡ tokens.old.items ++ item_tokens meaning c) }
 {
@@ -98,6 +104,7 @@ fn push_item(tokens: &mut Vec<Token>, meaning: Within, c: char) -> Result<(), Al
     Ok(())
 }
 
+/// Pushes the start of a class, and its first member, where the character is that and no circumflex.
 fn push_class_start(tokens: &mut Vec<Token>, c: char) -> Result<(), AllocError>
     ensures { OnOk result (tokens.new.items ≡ tokens.old.items ++ emits Control.ClassStart c) }
 {
@@ -110,6 +117,7 @@ fn push_class_start(tokens: &mut Vec<Token>, c: char) -> Result<(), AllocError>
     Ok(())
 }
 
+/// Pushes the member that a character is behind a single of a class, if it is one.
 fn push_single(tokens: &mut Vec<Token>, meaning: Within, c: char) -> Result<(), AllocError>
     ensures { OnOk result (tokens.new.items ≡ tokens.old.items ++ single_tokens meaning c) }
 {
@@ -119,6 +127,7 @@ fn push_single(tokens: &mut Vec<Token>, meaning: Within, c: char) -> Result<(), 
     Ok(())
 }
 
+/// Pushes the range that the character ends behind a single and a hyphen, or the hyphen where it closes the class.
 fn push_dash(tokens: &mut Vec<Token>, low: char, meaning: Within, c: char) -> Result<(), AllocError>
     ensures { OnOk result (tokens.new.items ≡ tokens.old.items ++ dash_tokens low meaning c) }
 {
@@ -133,6 +142,7 @@ fn push_dash(tokens: &mut Vec<Token>, low: char, meaning: Within, c: char) -> Re
     Ok(())
 }
 
+/// Pushes the members of an escape in a class: those of white space, or the one of the letter.
 fn push_class_escape(
     tokens: &mut Vec<Token>,
     meaning: BehindBackslash,
@@ -167,6 +177,7 @@ fn push_class_escape(
     Ok(())
 }
 
+/// Pushes the range that an escape ends, where the letter makes one.
 fn push_range_escape(
     tokens: &mut Vec<Token>,
     low: char,

@@ -13,7 +13,7 @@ use repo_objects::{CodeDef, Kinds, Object, ObjectKind, Repository};
 use std::alloc::{AllocError, Global};
 use std::collections::HashSet;
 
-// The first code set that has a code without a text, or two codes with one text.
+/// The first code set that has a code without a text, or two codes with one text.
 pub(crate) fn first_bad_codes(
     alloc: Global,
     repository: &Repository,
@@ -31,7 +31,7 @@ pub(crate) fn first_bad_codes(
     Ok(None)
 }
 
-// Whether a code of the object has no text, or the text of another.
+/// Whether a code of the object has no text, or the text of another.
 fn has_bad_codes<'a>(
     alloc: Global,
     texts: &mut CodeTexts<'a>,
@@ -52,7 +52,7 @@ fn has_bad_codes<'a>(
     Ok(false)
 }
 
-// The codes of a code set.
+/// The codes of a code set.
 pub(crate) fn set_codes(object: &Object) -> &[CodeDef]
     ensures { result.now ≡ spec.set_codes object.now }
 {

@@ -14,7 +14,7 @@ use std::alloc::{AllocError, Global};
 use std::collections::HashMap;
 use std::marker::Model;
 
-// How many traces are followed at most.
+/// How many traces are followed at most.
 const MOST_TRACES: u8 = 16;
 
 /// The text of the code of that number, counted from 0, of the object at that place in file order.
@@ -29,7 +29,7 @@ pub fn code_text(repository: &Repository, at: usize, code: usize) -> Option<&[u8
     text_of(repository, object, definition)
 }
 
-// The text of a code of the object.
+/// The text of a code of the object.
 fn text_of<'a>(
     repository: &'a Repository,
     object: &'a Object,
@@ -56,7 +56,7 @@ fn text_of<'a>(
 pub struct CodeTexts<'a> {
     alloc: Global,
     repository: &'a Repository,
-    // The codes of the sets that traces came to, by the places of the sets.
+    /// The codes of the sets that traces came to, by the places of the sets.
     sets: HashMap<usize, NamedCodes<'a>>,
 }
 
@@ -121,7 +121,7 @@ impl<'a> CodeTexts<'a> {
         Ok(own_text(code))
     }
 
-    // The code that has this one's name in the set that the object is traced to, with that set.
+    /// The code that has this one's name in the set that the object is traced to, with that set.
     fn traced(
         &mut self,
         object: &Object,
@@ -142,7 +142,7 @@ impl<'a> CodeTexts<'a> {
         Ok(Some((set, namesake)))
     }
 
-    // The first code of that name in the set at that place.
+    /// The first code of that name in the set at that place.
     fn named(
         &mut self,
         place: usize,
@@ -163,7 +163,7 @@ impl<'a> CodeTexts<'a> {
     }
 }
 
-// The text that the code itself has.
+/// The text that the code itself has.
 fn own_text(definition: &CodeDef) -> Option<&[u8]>
     ensures { option_map (λ t. t.now) result ≡ definition.now.code }
 {
@@ -173,7 +173,7 @@ fn own_text(definition: &CodeDef) -> Option<&[u8]>
     }
 }
 
-// The code that has this one's name in the set that the object is traced to, with that set.
+/// The code that has this one's name in the set that the object is traced to, with that set.
 fn traced<'a>(
     repository: &'a Repository,
     object: &Object,
@@ -187,7 +187,7 @@ fn traced<'a>(
     Some((set, namesake))
 }
 
-// The object with that id, behind its place.
+/// The object with that id, behind its place.
 fn set_named<'a>(repository: &'a Repository, id: &[u8]) -> Option<(usize, &'a Object)>
     ensures found { option_map (λ p. p.1.now) result ≡ find_entry id.now repository.now.objects }
     ensures there { IfSome result (λ p. StandsAt repository.now p.0 p.1.now) }
@@ -196,7 +196,7 @@ fn set_named<'a>(repository: &'a Repository, id: &[u8]) -> Option<(usize, &'a Ob
     Some((place, object_in(repository, place)))
 }
 
-// The first code of that name.
+/// The first code of that name.
 fn code_named<'a>(set: &'a Object, name: &[u8]) -> Option<&'a CodeDef>
     ensures { option_copied result ≡ find_code name.now set.now.codes }
 {
@@ -208,7 +208,7 @@ fn code_named<'a>(set: &'a Object, name: &[u8]) -> Option<&'a CodeDef>
     None
 }
 
-// Whether the code has that name.
+/// Whether the code has that name.
 fn is_named(code: &CodeDef, name: &[u8]) -> bool
     ensures { result ≡ bytes_eq code.now.name name.now }
 {

@@ -20,15 +20,15 @@ use repo_objects::{CodeDef, ElementDef, MessageDef, Object, ObjectKind, Reposito
 use std::alloc::{AllocError, Global};
 use std::str::from_utf8;
 
-// How many elements a list has at most.
+/// How many elements a list has at most.
 const MOST_ELEMENTS: usize = 4096;
 
-// How many objects are reached, how many codes a set has, and how many characters a code or a
-// pattern has at most.
+/// How many objects are reached, how many codes a set has, and how many characters a code or a
+/// pattern has at most.
 const MOST: usize = 65536;
 
-// The first object that has too many elements or codes, or a text that is too long; or the message,
-// where it has too many building blocks or reaches too many objects.
+/// The first object that has too many elements or codes, or a text that is too long; or the message,
+/// where it has too many building blocks or reaches too many objects.
 pub(crate) fn first_too_many(
     alloc: Global,
     repository: &Repository,
@@ -49,14 +49,14 @@ pub(crate) fn first_too_many(
     Ok(None)
 }
 
-// Whether the message has too many building blocks, or reaches too many objects.
+/// Whether the message has too many building blocks, or reaches too many objects.
 fn is_message_too_large(message: &MessageDef, reach: &Reach) -> bool
     ensures { IsTrue result ↔ ((4096 < length message.now.blocks) ⊎ (65536 < length reach.now.objects)) }
 {
     message.blocks.len() > MOST_ELEMENTS || reach.objects.len() > MOST
 }
 
-// Whether the object has too many elements or codes, or a text that is too long.
+/// Whether the object has too many elements or codes, or a text that is too long.
 fn is_too_large<'a>(texts: &mut CodeTexts<'a>, object: &'a Object) -> Result<bool, AllocError>
     requires whole { IsRepository texts.old }
     requires texts { HasObjectTexts object.now }
@@ -69,7 +69,7 @@ fn is_too_large<'a>(texts: &mut CodeTexts<'a>, object: &'a Object) -> Result<boo
     has_long_code(texts, object)
 }
 
-// Whether the object has too many elements or codes, or a pattern that is too long.
+/// Whether the object has too many elements or codes, or a pattern that is too long.
 fn is_too_long(object: &Object) -> bool
     requires { HasObjectTexts object.now }
     ensures { IsTrue result ↔ IsTooLongObject object.now }
@@ -79,7 +79,7 @@ fn is_too_long(object: &Object) -> bool
         || has_long_pattern(object)
 }
 
-// The elements of a component or a choice.
+/// The elements of a component or a choice.
 fn elements(object: &Object) -> &[ElementDef]
     ensures { result.now ≡ kind_elements object.now.kind object.now.elements }
 {
@@ -89,7 +89,7 @@ fn elements(object: &Object) -> &[ElementDef]
     }
 }
 
-// Whether a code of the object has a text that is too long.
+/// Whether a code of the object has a text that is too long.
 fn has_long_code<'a>(texts: &mut CodeTexts<'a>, object: &'a Object) -> Result<bool, AllocError>
     requires whole { IsRepository texts.old }
     requires texts { HasObjectTexts object.now }
@@ -104,7 +104,7 @@ fn has_long_code<'a>(texts: &mut CodeTexts<'a>, object: &'a Object) -> Result<bo
     Ok(false)
 }
 
-// Whether the code of the object has a text that is too long.
+/// Whether the code of the object has a text that is too long.
 fn has_long_text<'a>(
     texts: &mut CodeTexts<'a>,
     object: &'a Object,
@@ -121,7 +121,7 @@ fn has_long_text<'a>(
     }
 }
 
-// Whether the object has no codes, and a pattern that is too long.
+/// Whether the object has no codes, and a pattern that is too long.
 fn has_long_pattern(object: &Object) -> bool
     requires { HasObjectTexts object.now }
     ensures { IsTrue result ↔ HasLongPattern object.now }
@@ -135,7 +135,7 @@ fn has_long_pattern(object: &Object) -> bool
     }
 }
 
-// Whether a pattern of the kind is read.
+/// Whether a pattern of the kind is read.
 fn has_patterns(kind: ObjectKind) -> bool
     ensures { IsTrue result ↔ HasPatterns kind }
 {
@@ -145,7 +145,7 @@ fn has_patterns(kind: ObjectKind) -> bool
     }
 }
 
-// Whether the text has too many characters.
+/// Whether the text has too many characters.
 fn is_long(text: &[u8]) -> bool
     requires { IsXmlText text.now }
     ensures { IsTrue result ↔ IsLong text.now }
@@ -159,7 +159,7 @@ fn is_long(text: &[u8]) -> bool
     }
 }
 
-// The number of characters of the text.
+/// The number of characters of the text.
 fn character_count(text: &str) -> usize
     ensures { result ≡ length (chars text.now) }
 {

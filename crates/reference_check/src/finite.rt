@@ -29,14 +29,14 @@ struct Marking {
     untold: Vec<usize>,
 }
 
-// The mark at this place.
+/// The mark at this place.
 fn mark_at(marks: &[Mark], at: usize) -> Option<Mark>
     ensures { result ≡ slice_get marks.now at }
 {
     marks.get(at).copied()
 }
 
-// Whether the object at this place was found to have a finite instance.
+/// Whether the object at this place was found to have a finite instance.
 fn is_found(marks: &[Mark], at: usize) -> bool
     ensures { IsTrue result ↔ IsFoundAt marks.now at }
 {
@@ -46,7 +46,7 @@ fn is_found(marks: &[Mark], at: usize) -> bool
     }
 }
 
-// How many elements of the object at this place are known to be free, where it has no finite instance yet.
+/// How many elements of the object at this place are known to be free, where it has no finite instance yet.
 fn free_at(marks: &[Mark], at: usize) -> Option<usize>
     ensures { result ≡ free_of (slice_get marks.now at) }
 {
@@ -56,7 +56,7 @@ fn free_at(marks: &[Mark], at: usize) -> Option<usize>
     }
 }
 
-// Whether the element need not stand, or what it leads to has a finite instance.
+/// Whether the element need not stand, or what it leads to has a finite instance.
 fn is_free(repository: &Repository, marks: &[Mark], element: &ElementDef) -> bool
     ensures { TellsFree repository.now.objects marks.now element.now result }
 {
@@ -69,7 +69,7 @@ fn is_free(repository: &Repository, marks: &[Mark], element: &ElementDef) -> boo
     }
 }
 
-// The first element from a place on that keeps a sequence from having a finite instance.
+/// The first element from a place on that keeps a sequence from having a finite instance.
 fn first_blocked(
     repository: &Repository,
     marks: &[Mark],
@@ -86,7 +86,7 @@ fn first_blocked(
     None
 }
 
-// Whether one of the elements lets a choice have a finite instance.
+/// Whether one of the elements lets a choice have a finite instance.
 fn has_free(repository: &Repository, marks: &[Mark], elements: &[ElementDef]) -> bool
     ensures { TellsSomeFree repository.now.objects marks.now elements.now result }
 {
@@ -98,7 +98,7 @@ fn has_free(repository: &Repository, marks: &[Mark], elements: &[ElementDef]) ->
     false
 }
 
-// Where the object is kept from having a finite instance, of which so many elements are free.
+/// Where the object is kept from having a finite instance, of which so many elements are free.
 fn held_at(repository: &Repository, marks: &[Mark], object: &Object, free: usize) -> Option<usize>
     ensures { TellsHeld repository.now.objects marks.now object.now free result }
 {
@@ -115,7 +115,7 @@ fn held_at(repository: &Repository, marks: &[Mark], object: &Object, free: usize
     }
 }
 
-// Puts the mark at this place.
+/// Puts the mark at this place.
 fn set_mark(marks: &mut Vec<Mark>, at: usize, mark: Mark)
     ensures { marks.new.items ≡ slice_set marks.old.items at mark }
 {
@@ -125,7 +125,7 @@ fn set_mark(marks: &mut Vec<Mark>, at: usize, mark: Mark)
 }
 
 impl Marking {
-    // The object at this place has a finite instance, which its users are to be told.
+    /// The object at this place has a finite instance, which its users are to be told.
     fn find(&mut self, place: usize) -> Result<(), AllocError>
         ensures marks { OnOk result (self.new.marks.items ≡ slice_set self.old.marks.items place Mark.Finite) }
         ensures untold { OnOk result (self.new.untold.items ≡ self.old.untold.items ++ place ∷ []) }
@@ -135,7 +135,7 @@ impl Marking {
         Ok(())
     }
 
-    // Looks at the object at this place, if no finite instance of it was found.
+    /// Looks at the object at this place, if no finite instance of it was found.
     fn visit(&mut self, repository: &Repository, place: usize) -> Result<(), AllocError>
         ensures search { (m rest : List ℕ) → IsSearch repository.now m self.old.marks.items self.old.untold.items (place ∷ rest) → OnOk result (IsSearch repository.now m self.new.marks.items self.new.untold.items rest) }
         ensures left { OnOk result (open_marks self.new.marks.items + length self.new.untold.items ≤ open_marks self.old.marks.items + length self.old.untold.items) }
@@ -155,7 +155,7 @@ impl Marking {
         }
     }
 
-    // Looks at the objects at these places.
+    /// Looks at the objects at these places.
     fn visit_all(&mut self, repository: &Repository, places: &[usize]) -> Result<(), AllocError>
         ensures search { (m : List ℕ) → IsSearch repository.now m self.old.marks.items self.old.untold.items places.now → OnOk result (IsSearch repository.now m self.new.marks.items self.new.untold.items []) }
         ensures left { OnOk result (open_marks self.new.marks.items + length self.new.untold.items ≤ open_marks self.old.marks.items + length self.old.untold.items) }
@@ -166,7 +166,7 @@ impl Marking {
         Ok(())
     }
 
-    // Tells the users of each object that was found, until none is left to be told.
+    /// Tells the users of each object that was found, until none is left to be told.
     fn settle(&mut self, repository: &Repository, users: &[Places]) -> Result<(), AllocError>
         ensures { (m places : List ℕ) → AreListed repository.now.objects users.now places → HoldsReached repository.now m places → IsSearch repository.now m self.old.marks.items self.old.untold.items [] → OnOk result (IsSearch repository.now m self.new.marks.items [] []) }
     {
@@ -179,14 +179,14 @@ impl Marking {
     }
 }
 
-// No object is reached.
+/// No object is reached.
 fn no_marks(alloc: Global, count: usize) -> Result<Vec<Mark>, AllocError>
     ensures { IfOk result (λ v. v.items ≡ replicate count Mark.Unreached) }
 {
     vec![in alloc; Mark::Unreached; count]
 }
 
-// The marks of so many objects, of which those at these places are reached.
+/// The marks of so many objects, of which those at these places are reached.
 fn start(alloc: Global, count: usize, places: &[usize]) -> Result<Vec<Mark>, AllocError>
     ensures length { IfOk result (λ v. length v.items ≡ count) }
     ensures start { IfOk result (λ v. AreStart places.now v.items) }
@@ -198,7 +198,7 @@ fn start(alloc: Global, count: usize, places: &[usize]) -> Result<Vec<Mark>, All
     Ok(marks)
 }
 
-// The marks of all objects, where no other has a finite instance.
+/// The marks of all objects, where no other has a finite instance.
 fn finite_marks(
     alloc: Global,
     repository: &Repository,
@@ -218,7 +218,7 @@ fn finite_marks(
     Ok(marks)
 }
 
-// The first place of an object without a finite instance.
+/// The first place of an object without a finite instance.
 fn first_open(marks: &[Mark]) -> Option<usize>
     ensures { TellsFirstOpen marks.now result }
 {
@@ -230,7 +230,7 @@ fn first_open(marks: &[Mark]) -> Option<usize>
     None
 }
 
-// Whether the message has a finite instance, where these objects have one.
+/// Whether the message has a finite instance, where these objects have one.
 fn is_message_finite(repository: &Repository, marks: &[Mark], message: usize) -> bool
     ensures { TellsMessage repository.now marks.now message result }
 {

@@ -31,7 +31,7 @@ impl Marks {
         })
     }
 
-    // Marks the object at that place.
+    /// Marks the object at that place.
     fn mark_at(&mut self, at: usize) -> Result<(), AllocError>
         requires { at < length self.old.marked.items }
         ensures { OnOk result (AddsAt at self.old self.new) }
@@ -43,7 +43,7 @@ impl Marks {
         Ok(())
     }
 
-    // Marks the object of that id, if there is one.
+    /// Marks the object of that id, if there is one.
     fn mark(&mut self, repository: &Repository, id: &[u8]) -> Result<(), AllocError>
         requires { length self.old.marked.items ≡ length repository.now.objects }
         ensures { OnOk result (Adds repository.now (id.now ∷ []) self.old self.new) }
@@ -54,7 +54,7 @@ impl Marks {
         }
     }
 
-    // Marks what a reference names.
+    /// Marks what a reference names.
     fn mark_given(
         &mut self,
         repository: &Repository,
@@ -69,7 +69,7 @@ impl Marks {
         }
     }
 
-    // Marks what an element names.
+    /// Marks what an element names.
     fn mark_references(
         &mut self,
         repository: &Repository,
@@ -83,7 +83,7 @@ impl Marks {
         self.mark_given(repository, element.plain.as_ref())
     }
 
-    // Marks what elements name.
+    /// Marks what elements name.
     fn mark_elements(
         &mut self,
         repository: &Repository,
@@ -111,7 +111,7 @@ impl Marks {
         self.mark_given(repository, subject.currency())
     }
 
-    // Marks what the object at that place refers to.
+    /// Marks what the object at that place refers to.
     fn visit(&mut self, repository: &Repository, at: usize) -> Result<(), AllocError>
         requires { length self.old.marked.items ≡ length repository.now.objects }
         ensures { OnOk result (Visits repository.now at self.old self.new) }

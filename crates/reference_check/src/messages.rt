@@ -31,7 +31,7 @@ pub(crate) fn only_message<'a>(
     Ok(found)
 }
 
-// The first message of that identifier and its place.
+/// The first message of that identifier and its place.
 fn first_message<'a>(repository: &'a Repository, id: &[u8]) -> Option<(usize, &'a MessageDef)>
     ensures some { IfSome result (λ r. (slice_get repository.now.messages r.0 ≡ Some r.1.now) × (find_message id.now repository.now.messages ≡ Some r.1.now)) }
     ensures none { IfNone result (find_message id.now repository.now.messages ≡ None) }
@@ -44,7 +44,7 @@ fn first_message<'a>(repository: &'a Repository, id: &[u8]) -> Option<(usize, &'
     None
 }
 
-// How many messages have that identifier.
+/// How many messages have that identifier.
 fn message_count(repository: &Repository, id: &[u8]) -> usize
     ensures { result ≡ count_by (is_message_named id.now) repository.now.messages }
 {
@@ -57,7 +57,7 @@ fn message_count(repository: &Repository, id: &[u8]) -> usize
     count
 }
 
-// The message at that place, if it has that identifier.
+/// The message at that place, if it has that identifier.
 fn named_at<'a>(repository: &'a Repository, at: usize, id: &[u8]) -> Option<&'a MessageDef>
     ensures some { IfSome result (λ d. (slice_get repository.now.messages at ≡ Some d.now) × (bytes_eq d.now.id id.now ≡ true)) }
     ensures none { IfNone result ((d : MessageDef) → slice_get repository.now.messages at ≡ Some d → bytes_eq d.id id.now ≡ false) }

@@ -20,7 +20,7 @@ pub(crate) fn has_bad_name(subject: &Subject<'_>) -> bool
     own | tag
 }
 
-// Whether a name of its own has not the form of one.
+/// Whether a name of its own has not the form of one.
 fn has_bad_own_name(subject: &Subject<'_>) -> bool
     ensures { IsTrue result ↔ HasBadName (subject_names subject.now) }
 {
@@ -31,7 +31,7 @@ fn has_bad_own_name(subject: &Subject<'_>) -> bool
     }
 }
 
-// Whether a tag has not the form of a name.
+/// Whether a tag has not the form of a name.
 fn has_bad_tag(elements: &[ElementDef]) -> bool
     ensures { IsTrue result ↔ ((e : ElementDef) × Contains elements.now e × (is_profile_name e.tag ≡ false)) }
 {
@@ -43,8 +43,8 @@ fn has_bad_tag(elements: &[ElementDef]) -> bool
     false
 }
 
-// Whether the bytes have the form of a name: an ASCII letter or `_`, and then at most 255 ASCII letters,
-// digits, `_`, `-` or `.`.
+/// Whether the bytes have the form of a name: an ASCII letter or `_`, and then at most 255 ASCII letters,
+/// digits, `_`, `-` or `.`.
 fn is_name(bytes: &[u8]) -> bool
     ensures { result ≡ is_profile_name bytes.now }
 {
@@ -54,18 +54,21 @@ fn is_name(bytes: &[u8]) -> bool
     }
 }
 
+/// Whether each of the bytes may stand in a name behind the first.
 fn are_name_bytes(bytes: &[u8]) -> bool
     ensures { result ≡ list_all is_name_byte bytes.now }
 {
     bytes.iter().all(|byte| is_name_byte(*byte))
 }
 
+/// Whether the byte may begin a name: an ASCII letter or `_`.
 fn is_name_first(byte: u8) -> bool
     ensures { result ≡ is_name_first byte }
 {
     byte.is_ascii_alphabetic() || byte == b'_'
 }
 
+/// Whether the byte may stand in a name behind the first: an ASCII letter or digit, `_`, `-` or `.`.
 fn is_name_byte(byte: u8) -> bool
     ensures { result ≡ is_name_byte byte }
 {

@@ -20,7 +20,7 @@ pub(crate) fn has_bad_bounds(elements: &[ElementDef]) -> bool
     false
 }
 
-// Whether the minimum is not above the maximum, which is not 0.
+/// Whether the minimum is not above the maximum, which is not 0.
 fn has_bounds(element: &ElementDef) -> bool
     ensures { IsTrue result ↔ UpToMax element.now.min element.now.max }
 {
@@ -50,13 +50,14 @@ pub(crate) fn has_no_alternatives(subject: &Subject<'_>) -> bool
     }
 }
 
+/// Whether the object is a choice.
 fn is_choice(object: &Object) -> bool
     ensures { IsTrue result ↔ (object.now.kind ≡ Choice) }
 {
     matches!(object.kind, ObjectKind::Choice)
 }
 
-// Whether an element's minimum is 0.
+/// Whether an element's minimum is 0.
 fn has_optional(elements: &[ElementDef]) -> bool
     ensures { IsTrue result ↔ ((e : ElementDef) × Contains elements.now e × (e.min ≡ 0)) }
 {

@@ -22,7 +22,7 @@ pub(crate) fn has_dangling(repository: &Repository, subject: &Subject<'_>) -> bo
     have_dangling(repository, subject.elements())
 }
 
-// Whether an element names an object that is not there.
+/// Whether an element names an object that is not there.
 fn have_dangling(repository: &Repository, elements: &[ElementDef]) -> bool
     ensures { IsTrue result ↔ ((e : ElementDef) × Contains elements.now e × NamesNoEntry repository.now (references e)) }
 {
@@ -34,7 +34,7 @@ fn have_dangling(repository: &Repository, elements: &[ElementDef]) -> bool
     false
 }
 
-// Whether the element names an object that is not there.
+/// Whether the element names an object that is not there.
 fn is_dangling(repository: &Repository, element: &ElementDef) -> bool
     ensures { IsTrue result ↔ NamesNoEntry repository.now (references element.now) }
 {
@@ -44,7 +44,7 @@ fn is_dangling(repository: &Repository, element: &ElementDef) -> bool
     simple | complex | plain
 }
 
-// Whether the reference is there and its object is not.
+/// Whether the reference is there and its object is not.
 fn names_none(repository: &Repository, reference: &Option<Text>) -> bool
     ensures { IsTrue result ↔ NamesNoEntry repository.now (given_id reference.now) }
 {
@@ -54,7 +54,7 @@ fn names_none(repository: &Repository, reference: &Option<Text>) -> bool
     }
 }
 
-// Whether no object has the id.
+/// Whether no object has the id.
 fn is_missing(repository: &Repository, id: &[u8]) -> bool
     ensures { IsTrue result ↔ HasNoEntry repository.now id.now }
 {
@@ -74,7 +74,7 @@ pub(crate) fn has_bad_currency(repository: &Repository, subject: &Subject<'_>) -
     }
 }
 
-// Whether the object of that id is there and its values are no texts.
+/// Whether the object of that id is there and its values are no texts.
 fn is_no_text_object(repository: &Repository, id: &[u8]) -> bool
     ensures { IsTrue result ↔ ((o : Object) × (find_entry id.now repository.now.objects ≡ Some o) × (IsTextKind o.kind → ⊥)) }
 {
@@ -84,7 +84,7 @@ fn is_no_text_object(repository: &Repository, id: &[u8]) -> bool
     }
 }
 
-// Whether the values are texts.
+/// Whether the values are texts.
 fn is_text_kind(kind: &ObjectKind) -> bool
     ensures { IsTrue result ↔ IsTextKind kind.now }
 {
@@ -106,7 +106,7 @@ pub(crate) fn names_not_one(elements: &[ElementDef]) -> bool
     false
 }
 
-// How many objects the element names.
+/// How many objects the element names.
 fn reference_count(element: &ElementDef) -> usize
     ensures { result ≡ length (references element.now) }
 {

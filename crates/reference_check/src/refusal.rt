@@ -40,7 +40,7 @@ pub(crate) fn refuse_broken(
     }
 }
 
-// The id of an object, or the identifier of the message.
+/// The id of an object, or the identifier of the message.
 fn id_of<'a>(repository: &'a Repository, message: &'a [u8], breaker: Breaker) -> &'a [u8]
     ensures { (p : Place) → IsPlaceOf repository.now breaker p → result.now ≡ place_id message.now p }
 {

@@ -18,11 +18,11 @@ use repo_objects::{Kinds, MessageDef, Object, ObjectKind, Repository};
 use std::alloc::{AllocError, Global};
 use std::collections::HashMap;
 
-// The last object that has a name, by its rank: its place in file order, with the message behind
-// all objects.
+/// The last object that has a name, by its rank: its place in file order, with the message behind
+/// all objects.
 type Owners = HashMap<Vec<u8>, usize>;
 
-// The first object or message with a schema type name that is `Document`, or that another has.
+/// The first object or message with a schema type name that is `Document`, or that another has.
 pub(crate) fn first_name_twice(
     alloc: Global,
     repository: &Repository,
@@ -45,7 +45,7 @@ pub(crate) fn first_name_twice(
     Ok(None)
 }
 
-// The last owner of each name, of all that is reached.
+/// The last owner of each name, of all that is reached.
 fn name_owners(alloc: Global, repository: &Repository, reach: &Reach) -> Result<Owners, AllocError>
     requires { (m : List ℕ) × HasReach repository.now m reach.now }
     ensures { (m : List ℕ) → HasReach repository.now m reach.now → IfOk result (λ o. OwnersAre repository.now m (reach.now.objects ++ length repository.now.objects ∷ []) (owner_of o)) }
@@ -65,7 +65,7 @@ fn name_owners(alloc: Global, repository: &Repository, reach: &Reach) -> Result<
     Ok(owners)
 }
 
-// Makes this the owner of the names.
+/// Makes this the owner of the names.
 fn own_names(
     alloc: Global,
     owners: &mut Owners,
@@ -80,7 +80,7 @@ fn own_names(
     Ok(())
 }
 
-// Whether one of the names is `Document` or has another owner.
+/// Whether one of the names is `Document` or has another owner.
 fn has_clash(owners: &Owners, names: &[Text], rank: usize) -> bool
     ensures { IsTrue result ↔ ((name : List ℕ) × Contains names.now name × ((name ≡ codes "Document") ⊎ (owner_of owners.now name ≢ Some rank))) }
 {
@@ -92,6 +92,7 @@ fn has_clash(owners: &Owners, names: &[Text], rank: usize) -> bool
     false
 }
 
+/// Whether the name is `Document`, or its owner is not the one of this rank.
 fn is_clash(owners: &Owners, name: &[u8], rank: usize) -> bool
     ensures { IsTrue result ↔ ((name.now ≡ codes "Document") ⊎ (owner_of owners.now name.now ≢ Some rank)) }
 {
@@ -104,7 +105,7 @@ fn is_clash(owners: &Owners, name: &[u8], rank: usize) -> bool
     }
 }
 
-// The names of the types that the object has in a schema.
+/// The names of the types that the object has in a schema.
 fn object_names(alloc: Global, object: &Object) -> Result<Items<Text>, AllocError>
     ensures { IfOk result (λ names. names ≡ object_type_names object.now) }
 {
@@ -119,14 +120,14 @@ fn object_names(alloc: Global, object: &Object) -> Result<Items<Text>, AllocErro
     Ok(names)
 }
 
-// Whether the object is an amount that names a set of currencies.
+/// Whether the object is an amount that names a set of currencies.
 fn is_with_currency(object: &Object) -> bool
     ensures { result ≡ is_some (kind_currency object.now.kind object.now.currency) }
 {
     matches!(object.kind, ObjectKind::Simple(Kinds::Amount)) && object.currency.is_some()
 }
 
-// The name of the type that the message has in a schema.
+/// The name of the type that the message has in a schema.
 fn message_names(alloc: Global, message: &MessageDef) -> Result<Items<Text>, AllocError>
     ensures { IfOk result (λ names. names ≡ message.now.name ∷ []) }
 {
@@ -135,7 +136,7 @@ fn message_names(alloc: Global, message: &MessageDef) -> Result<Items<Text>, All
     Ok(names)
 }
 
-// The message.
+/// The message.
 pub(crate) fn message_in<'a>(repository: &'a Repository, reach: &Reach) -> &'a MessageDef
     requires { (m : List ℕ) × HasReach repository.now m reach.now }
     ensures message { slice_get repository.now.messages reach.now.message ≡ Some result.now }

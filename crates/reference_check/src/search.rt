@@ -35,7 +35,7 @@ pub fn reach(alloc: Global, repository: &Repository, id: &MessageId) -> Result<R
     }
 }
 
-// What the message at that place reaches.
+/// What the message at that place reaches.
 fn reach_of(
     alloc: Global,
     repository: &Repository,
@@ -52,7 +52,7 @@ fn reach_of(
     })
 }
 
-// The marks of what the message reaches.
+/// The marks of what the message reaches.
 fn marks_of(
     alloc: Global,
     repository: &Repository,
@@ -67,7 +67,7 @@ fn marks_of(
     Ok(marks)
 }
 
-// The places that are marked, in their order.
+/// The places that are marked, in their order.
 fn marked_places(alloc: Global, marked: &[bool]) -> Result<Places, AllocError>
     ensures rising { IfOk result (AllPairs (λ i j. i < j)) }
     ensures places { IfOk result (λ places. (k : ℕ) → Contains places k ↔ IsObjectMarked marked.now k) }

@@ -74,7 +74,7 @@ impl StructureRule {
         }
     }
 
-    // Whether it is broken.
+    /// Whether it is broken.
     fn is_broken(
         self,
         alloc: Global,
@@ -95,7 +95,7 @@ impl StructureRule {
         }
     }
 
-    // Whether the object at that place breaks it.
+    /// Whether the object at that place breaks it.
     fn is_broken_at(
         self,
         alloc: Global,
@@ -111,7 +111,7 @@ impl StructureRule {
         }
     }
 
-    // Whether the message at that place breaks it.
+    /// Whether the message at that place breaks it.
     fn is_broken_by_message(
         self,
         alloc: Global,
@@ -126,7 +126,7 @@ impl StructureRule {
         }
     }
 
-    // What breaks it first, of what is reached.
+    /// What breaks it first, of what is reached.
     fn first_breaking(
         self,
         alloc: Global,

@@ -38,7 +38,7 @@ impl<'a> Subject<'a> {
     }
 }
 
-// The elements of a component or a choice.
+/// The elements of a component or a choice.
 fn elements_of(object: &Object) -> &[ElementDef]
     ensures { result.now ≡ kind_elements object.now.kind object.now.elements }
 {
@@ -48,7 +48,7 @@ fn elements_of(object: &Object) -> &[ElementDef]
     }
 }
 
-// The id of the set of currencies that an amount names.
+/// The id of the set of currencies that an amount names.
 fn currency_of(object: &Object) -> Option<&Text>
     ensures { option_copied result ≡ kind_currency object.now.kind object.now.currency }
 {

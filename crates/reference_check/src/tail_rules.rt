@@ -40,7 +40,7 @@ pub fn tail(alloc: Global, repository: &Repository, reach: &Reach) -> Result<(),
     Ok(())
 }
 
-// The error that tells the number of the rule and what breaks it.
+/// The error that tells the number of the rule and what breaks it.
 fn refusal(
     alloc: Global,
     repository: &Repository,
@@ -61,7 +61,7 @@ fn refusal(
     ReadyError::Broken { rule, object }
 }
 
-// The id of the object, or the identifier of the message.
+/// The id of the object, or the identifier of the message.
 fn breaker_id<'a>(repository: &'a Repository, reach: &Reach, breaker: Breaker) -> &'a [u8]
     requires { (m : List ℕ) × (p : Place) × HasReach repository.now m reach.now × IsPlaceOf repository.now breaker p }
     ensures { (m : List ℕ) (p : Place) → HasReach repository.now m reach.now → IsPlaceOf repository.now breaker p → result.now ≡ place_id m p }
@@ -72,7 +72,7 @@ fn breaker_id<'a>(repository: &'a Repository, reach: &Reach, breaker: Breaker) -
     }
 }
 
-// The object at that place.
+/// The object at that place.
 pub(crate) fn object_in(repository: &Repository, at: usize) -> &Object
     requires { at < length repository.now.objects }
     ensures { StandsAt repository.now at result.now }
@@ -80,7 +80,7 @@ pub(crate) fn object_in(repository: &Repository, at: usize) -> &Object
     repository.object_at(at).unwrap().1
 }
 
-// The first object of a kind that is left out, or with a pattern that its kind may not have.
+/// The first object of a kind that is left out, or with a pattern that its kind may not have.
 fn first_left_out(repository: &Repository, reach: &Reach) -> Option<Breaker>
     requires { (m : List ℕ) × HasReach repository.now m reach.now }
     ensures { (m : List ℕ) → HasReach repository.now m reach.now → TellsFirst repository.now m LeftOutKind result }
@@ -93,7 +93,7 @@ fn first_left_out(repository: &Repository, reach: &Reach) -> Option<Breaker>
     None
 }
 
-// Whether the kind of the object is left out, or may not have the pattern that the object has.
+/// Whether the kind of the object is left out, or may not have the pattern that the object has.
 fn is_left_out(object: &Object) -> bool
     ensures { IsTrue result ↔ IsLeftOut object.now }
 {
@@ -104,7 +104,7 @@ fn is_left_out(object: &Object) -> bool
     }
 }
 
-// Whether texts of the kind have no pattern.
+/// Whether texts of the kind have no pattern.
 pub(crate) fn has_no_patterns(kind: Kinds) -> bool
     ensures { IsTrue result ↔ HasNoPatterns (Simple kind) }
 {

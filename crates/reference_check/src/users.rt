@@ -9,7 +9,7 @@ use lexical_core::Text;
 use repo_objects::{ElementDef, Repository};
 use std::alloc::{AllocError, Global};
 
-// The id that the element names, if it names one alone.
+/// The id that the element names, if it names one alone.
 fn only_reference(element: &ElementDef) -> Option<&Text>
     ensures { option_copied result ≡ only_one (references element.now) }
 {
@@ -44,7 +44,7 @@ pub(crate) fn target_of(repository: &Repository, element: &ElementDef) -> Option
     }
 }
 
-// So many empty lists.
+/// So many empty lists.
 fn empty_lists(alloc: Global, count: usize) -> Result<Vec<Places>, AllocError>
     ensures { IfOk result (λ v. length v.items ≡ count) }
 {
@@ -55,7 +55,7 @@ fn empty_lists(alloc: Global, count: usize) -> Result<Vec<Places>, AllocError>
     Ok(lists)
 }
 
-// Puts the user at the end of the list at this place.
+/// Puts the user at the end of the list at this place.
 fn add_user(lists: &mut Vec<Places>, at: usize, user: usize) -> Result<(), AllocError>
     requires { at < length lists.old.items }
     ensures length { length lists.new.items ≡ length lists.old.items }
@@ -64,7 +64,7 @@ fn add_user(lists: &mut Vec<Places>, at: usize, user: usize) -> Result<(), Alloc
     lists[at].push(user)
 }
 
-// Makes the object at `user` a user of what the element leads to, if it has to stand.
+/// Makes the object at `user` a user of what the element leads to, if it has to stand.
 fn add_target(
     repository: &Repository,
     lists: &mut Vec<Places>,
@@ -85,7 +85,7 @@ fn add_target(
     }
 }
 
-// Makes the object at `user` a user of what the elements lead to.
+/// Makes the object at `user` a user of what the elements lead to.
 fn add_targets(
     repository: &Repository,
     lists: &mut Vec<Places>,
@@ -103,7 +103,7 @@ fn add_targets(
     Ok(())
 }
 
-// Makes the object at this place a user of what its elements lead to.
+/// Makes the object at this place a user of what its elements lead to.
 fn add_object(
     repository: &Repository,
     lists: &mut Vec<Places>,

@@ -6,6 +6,7 @@ use crate::characters::is_blank;
 use crate::scan::{Field, Scan, Turn, goes_if};
 use crate::word::Word;
 
+/// In white space behind `<?xml`: more of it, or the first letter of `version`.
 pub(super) fn declaration_gap(c: char) -> Turn
     ensures { result ≡ declaration_gap_step c }
 {
@@ -29,6 +30,7 @@ impl Field {
     }
 }
 
+/// In a field's name: its next letter, or behind the last white space or `=`.
 pub(super) fn field_name(field: Field, at: u8, c: char) -> Turn
     ensures { result ≡ field_name_step field at c }
 {
@@ -38,6 +40,7 @@ pub(super) fn field_name(field: Field, at: u8, c: char) -> Turn
     }
 }
 
+/// Behind a field's name: white space, or `=`.
 pub(super) fn field_before(field: Field, c: char) -> Turn
     ensures { result ≡ field_before_step field c }
 {
@@ -48,6 +51,7 @@ pub(super) fn field_before(field: Field, c: char) -> Turn
     }
 }
 
+/// Behind the `=` of a field: white space, or the quote before its value.
 pub(super) fn field_after(field: Field, c: char) -> Turn
     ensures { result ≡ field_after_step field c }
 {
@@ -61,6 +65,7 @@ pub(super) fn field_after(field: Field, c: char) -> Turn
     }
 }
 
+/// Behind the quote before a field's value: the first character of `1.0`, of `utf-8` in either case, or of `yes` or `no`.
 pub(super) fn field_value(field: Field, quote: char, c: char) -> Turn
     ensures { result ≡ field_value_step field quote c }
 {
@@ -96,6 +101,7 @@ pub(super) fn fits(word: Word, letter: char, c: char) -> bool
     }
 }
 
+/// In a field's value: its next character, or behind the last the quote that began it.
 pub(super) fn field_word(field: Field, word: Word, quote: char, at: u8, c: char) -> Turn
     ensures { result ≡ field_word_step field word quote at c }
 {
@@ -108,6 +114,7 @@ pub(super) fn field_word(field: Field, word: Word, quote: char, at: u8, c: char)
     }
 }
 
+/// Behind a field: white space, or the `?` of the declaration's end.
 pub(super) fn field_end(field: Field, c: char) -> Turn
     ensures { result ≡ field_end_step field c }
 {
@@ -118,6 +125,7 @@ pub(super) fn field_end(field: Field, c: char) -> Turn
     }
 }
 
+/// In white space behind a field: the first letter of one that may follow it, or as right behind the field.
 pub(super) fn field_gap(field: Field, c: char) -> Turn
     ensures { result ≡ field_gap_step field c }
 {

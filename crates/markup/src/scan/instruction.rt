@@ -6,6 +6,7 @@ use crate::characters::{begins_name, continues_name, is_allowed, is_blank};
 use crate::scan::{Ended, Scan, Turn, goes_if};
 use crate::word::Word;
 
+/// Behind `<!`: the `-` of a comment, the `[` of a CDATA section, or the `D` of a type declaration.
 pub(super) fn bang(c: char) -> Turn
     ensures { result ≡ bang_step c }
 {
@@ -29,6 +30,7 @@ pub(super) fn in_comment(hyphen: Scan, c: char) -> Turn
     }
 }
 
+/// In `CDATA[` or `DOCTYPE`: its next letter; the last ends the token.
 pub(super) fn in_fixed(word: Word, at: u8, c: char) -> Turn
     ensures { result ≡ fixed_step word at c }
 {
@@ -49,6 +51,7 @@ pub(super) fn in_fixed(word: Word, at: u8, c: char) -> Turn
     }
 }
 
+/// Behind `<?`: a target begins; `x` or `X` may begin `xml`, and only the small letter a declaration.
 pub(super) fn question(first: bool, c: char) -> Turn
     ensures { result ≡ question_step first c }
 {
@@ -61,6 +64,7 @@ pub(super) fn question(first: bool, c: char) -> Turn
     }
 }
 
+/// In a target that is `x` so far: `m` or `M` may lead to `xml`, only the small one to a declaration; else as in another.
 pub(super) fn target_x(first: bool, c: char) -> Turn
     ensures { result ≡ target_x_step first c }
 {
@@ -73,6 +77,7 @@ pub(super) fn target_x(first: bool, c: char) -> Turn
     }
 }
 
+/// In a target that is `xm` so far: `l` or `L` makes it `xml`, only the small one for a declaration; else as in another.
 pub(super) fn target_xm(first: bool, c: char) -> Turn
     ensures { result ≡ target_xm_step first c }
 {
@@ -85,6 +90,7 @@ pub(super) fn target_xm(first: bool, c: char) -> Turn
     }
 }
 
+/// In a target that is `xml` so far: it goes on as another, or white space begins a declaration, where one may follow.
 pub(super) fn target_xml(first: bool, c: char) -> Turn
     ensures { result ≡ target_xml_step first c }
 {
@@ -95,6 +101,7 @@ pub(super) fn target_xml(first: bool, c: char) -> Turn
     }
 }
 
+/// In another target: it goes on, or white space or `?` ends it.
 pub(super) fn target(c: char) -> Turn
     ensures { result ≡ target_step c }
 {
@@ -107,6 +114,7 @@ pub(super) fn target(c: char) -> Turn
     }
 }
 
+/// In an instruction's text: `?` may end it, and any other character that is allowed goes on.
 pub(super) fn instruction_text(c: char) -> Turn
     ensures { result ≡ instruction_step c }
 {
@@ -117,6 +125,7 @@ pub(super) fn instruction_text(c: char) -> Turn
     }
 }
 
+/// Behind a `?` in an instruction's text: `>` ends the instruction; else as in the text.
 pub(super) fn instruction_mark(c: char) -> Turn
     ensures { result ≡ mark_step c }
 {

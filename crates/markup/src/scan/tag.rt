@@ -6,6 +6,7 @@ use crate::characters::{begins_name, is_allowed, is_blank};
 use crate::reference::{ReferenceScan, ReferenceTurn};
 use crate::scan::{Ended, NameScan, NameTurn, Scan, Turn, goes_if};
 
+/// In the name of a start tag: it goes on, or ends, or the character stands nowhere there.
 pub(super) fn start_name(scan: NameScan, c: char) -> Turn
     ensures { result ≡ start_name_step scan c }
 {
@@ -16,6 +17,7 @@ pub(super) fn start_name(scan: NameScan, c: char) -> Turn
     }
 }
 
+/// Behind a start tag's name or an attribute: white space, or the end of the tag.
 pub(super) fn behind_attribute(c: char) -> Turn
     ensures { result ≡ behind_attribute_step c }
 {
@@ -26,6 +28,7 @@ pub(super) fn behind_attribute(c: char) -> Turn
     }
 }
 
+/// Where a start tag may end: the `/` of an empty element's tag, or `>`.
 pub(super) fn closes(c: char) -> Turn
     ensures { result ≡ close_step c }
 {
@@ -36,6 +39,7 @@ pub(super) fn closes(c: char) -> Turn
     }
 }
 
+/// In white space of a start tag: an attribute begins, or more white space or the end of the tag follows.
 pub(super) fn gap(c: char) -> Turn
     ensures { result ≡ gap_step c }
 {
@@ -46,6 +50,7 @@ pub(super) fn gap(c: char) -> Turn
     }
 }
 
+/// In an attribute's name: it goes on, or ends, or the character stands nowhere there.
 pub(super) fn attribute_name(scan: NameScan, c: char) -> Turn
     ensures { result ≡ attribute_name_step scan c }
 {
@@ -56,6 +61,7 @@ pub(super) fn attribute_name(scan: NameScan, c: char) -> Turn
     }
 }
 
+/// Behind an attribute's name: white space, or `=`.
 pub(super) fn before_equals(c: char) -> Turn
     ensures { result ≡ before_equals_step c }
 {
@@ -66,6 +72,7 @@ pub(super) fn before_equals(c: char) -> Turn
     }
 }
 
+/// Behind the `=` of an attribute: white space, or the quote before its value.
 pub(super) fn after_equals(c: char) -> Turn
     ensures { result ≡ after_equals_step c }
 {
@@ -76,6 +83,7 @@ pub(super) fn after_equals(c: char) -> Turn
     }
 }
 
+/// In an attribute's value: its quote ends it, `&` begins a reference, and any character that is allowed but `<` goes on.
 pub(super) fn value(quote: char, c: char) -> Turn
     ensures { result ≡ value_step quote c }
 {
@@ -91,6 +99,7 @@ pub(super) fn value(quote: char, c: char) -> Turn
     }
 }
 
+/// In a reference in an attribute's value: it goes on, or ends, or the character stands nowhere there.
 pub(super) fn value_reference(quote: char, scan: ReferenceScan, c: char) -> Turn
     ensures { result ≡ value_reference_turn quote scan c }
 {
@@ -101,6 +110,7 @@ pub(super) fn value_reference(quote: char, scan: ReferenceScan, c: char) -> Turn
     }
 }
 
+/// In the name of an end tag: it goes on, or ends, or the character stands nowhere there.
 pub(super) fn end_name(scan: NameScan, c: char) -> Turn
     ensures { result ≡ end_name_step scan c }
 {
@@ -111,6 +121,7 @@ pub(super) fn end_name(scan: NameScan, c: char) -> Turn
     }
 }
 
+/// Behind the name of an end tag: white space, or `>`.
 pub(super) fn end_gap(c: char) -> Turn
     ensures { result ≡ end_gap_step c }
 {

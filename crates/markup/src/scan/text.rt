@@ -6,6 +6,7 @@ use crate::characters::{begins_name, is_allowed};
 use crate::reference::{ReferenceScan, ReferenceTurn};
 use crate::scan::{Ended, NameScan, Position, Scan, Turn, goes_if};
 
+/// At a token's first character: U+FEFF is a byte order mark at the start of the input; else as in text or in a CDATA section.
 #[inline]
 pub(super) fn begin(position: Position, c: char) -> Turn
     ensures { result ≡ begin_step position c }
@@ -24,6 +25,7 @@ pub(super) fn begin(position: Position, c: char) -> Turn
     }
 }
 
+/// In text: `<` begins markup, `&` a reference, and other characters are those of a line.
 #[inline]
 pub(super) fn in_text(first: bool, c: char) -> Turn
     ensures { result ≡ text_step first c }
@@ -37,6 +39,7 @@ pub(super) fn in_text(first: bool, c: char) -> Turn
     }
 }
 
+/// In a line of text: CR begins a line end, LF is one, and any other character that is allowed is a token.
 #[inline]
 pub(super) fn in_line(c: char) -> Turn
     ensures { result ≡ line_step c }
@@ -50,6 +53,7 @@ pub(super) fn in_line(c: char) -> Turn
     }
 }
 
+/// In a CDATA section: `]` may begin its end, and other characters are those of a line.
 #[inline]
 pub(super) fn in_cdata(c: char) -> Turn
     ensures { result ≡ cdata_step c }
@@ -61,6 +65,7 @@ pub(super) fn in_cdata(c: char) -> Turn
     }
 }
 
+/// In a reference in text: it goes on, or gives its character, or the character stands nowhere there.
 #[inline]
 pub(super) fn in_reference(scan: ReferenceScan, c: char) -> Turn
     ensures { result ≡ reference_turn scan c }
@@ -72,6 +77,7 @@ pub(super) fn in_reference(scan: ReferenceScan, c: char) -> Turn
     }
 }
 
+/// Behind `<`: `!`, `?` or `/` leads on, or the name of a start tag begins.
 pub(super) fn opened(first: bool, c: char) -> Turn
     ensures { result ≡ opened_step first c }
 {
