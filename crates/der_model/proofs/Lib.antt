@@ -5,8 +5,10 @@ pub mod ContentsLaws
 pub mod SoundMessages
 pub mod OnePart
 pub mod OneFault
+pub mod MovedPlaces
 pub mod Continued
 pub mod WholeValues
+pub mod MovedFaults
 pub mod Fields
 pub mod Spelled
 pub mod OneValue

@@ -177,7 +177,7 @@ clean_next m one s place bytes after p rule off added is h u c n =
     clean_breaks m one s place p rule added h c (none_stands m one s place bytes after p rule off added is h u n).0
 
 -- what stands next, in the state and at the place that are told otherwise
-next_as : {P : Type 0} (m : DerMessage P) (s t : State P) (place at : ℕ) (bytes rest : List ℕ) (rule : Rule) (off : ℕ) (added : List ℕ) → s ≡ t → place ≡ at → bytes ≡ rest → NextPart m t at rest rule off added → NextPart m s place bytes rule off added
+pub next_as : {P : Type 0} (m : DerMessage P) (s t : State P) (place at : ℕ) (bytes rest : List ℕ) (rule : Rule) (off : ℕ) (added : List ℕ) → s ≡ t → place ≡ at → bytes ≡ rest → NextPart m t at rest rule off added → NextPart m s place bytes rule off added
 next_as m s t place at bytes rest rule off added p q r n =
     subst (λ z. NextPart m z place bytes rule off added) (sym p) (subst (λ z. NextPart m t z bytes rule off added) (sym q) (subst (λ z. NextPart m t at z rule off added) (sym r) n))
 

@@ -6,6 +6,7 @@ pub mod Der
 pub mod States
 pub mod Paths
 pub mod Faults
+pub mod MovedPlaces
 pub mod Sound
 pub mod SomeAnswers
 pub mod OpenParts
@@ -14,6 +15,7 @@ pub mod NestedPieces
 pub mod Examples
 pub mod ShownExamples
 pub mod Laws
+pub mod MovedLaws
 pub mod OpenLaws
 pub mod ShownLaws
 pub mod inner

@@ -10,6 +10,7 @@ ghost use Rattle.der_model.specs.Der.{der_of};
 ghost use Rattle.der_model.specs.Faults.{DerFault};
 ghost use Rattle.der_model.specs.Sound.{IsSoundDer};
 ghost use Rattle.der_model.specs.Laws.{OneValue, NoProperDerFront, OneDerFault, SpelledHasNoDerFault, WholeIsSpelled, OneAnswer, FaultStays, TablesAreSound};
+ghost use Rattle.der_model.specs.MovedLaws.{FrontMoves, NextPartMoves, PlacesMove, NoFaultBefore, WholeMoves, WholeEnds};
 ghost use Rattle.der_model.specs.SomeAnswers.{HaveKinds, CompiledHaveKinds, SomeContents, DerSpelledOrFaulty};
 ghost use Rattle.der_model.specs.OpenLaws.{PartIsOpen, BrokenPartIsNotOpen, FrontIsOpen};
 ghost use Rattle.der_model.specs.ShownLaws.{WholeShowsPieces, FrontShowsPieces, ShowOnePieces, OneMoreShows, FrontNests};
@@ -53,6 +54,22 @@ pub fn one_answer()
 #[tactic(auto, using(crate::proofs::Continued::fault_stays))]
 pub fn fault_stays()
     ensures { (m : DerMessage ℕ) → FaultStays m }
+{}
+
+/// Parts that break no rule, and what stands next, are the same wherever they begin: places move with them, and so do the ends
+/// of what is open.
+pub fn front_moves()
+    ensures clean { (m : DerMessage ℕ) → FrontMoves m }
+    ensures next { (m : DerMessage ℕ) → NextPartMoves m }
+{}
+
+/// Where a message begins moves the place of its first fault, by as much, and changes nothing else; where the message is whole
+/// it ends as far on as it has octets.
+pub fn places_move()
+    ensures fault { (m : DerMessage ℕ) → PlacesMove m }
+    ensures before { (m : DerMessage ℕ) → NoFaultBefore m }
+    ensures whole { (m : DerMessage ℕ) → WholeMoves m }
+    ensures end { (m : DerMessage ℕ) → WholeEnds m }
 {}
 
 /// No contents octets neither are those of a leaf that fits a simple type nor break a rule.

@@ -4,7 +4,8 @@
 //! `specs/` has the definitions, in reading order in `Lib.antt`: what DER an admitted value has
 //! (`Der`), which parts bytes are and what is open behind them (`States`, `Paths`), which pieces of the
 //! instance the parts show (`ShownPieces`), and the rule, the place and the path of what is wrong first
-//! (`Faults`). `laws` says that these agree.
+//! (`Faults`), also with the places of a stream in which the message stands behind others (`MovedPlaces`). `laws` says that
+//! these agree.
 //!
 //! Of a message `Note` with a text `Id` the value whose `Id` is `A1` has the DER `30 06 A0 04 80 02 41 31`: `Document` is a
 //! sequence, and each slot has its number as a tag. Of `30 06 A0 04 80 02 41` the fault is `Truncated` at 7, of
