@@ -9,9 +9,9 @@ use Rattle.markup.specs.Chars.{is_xml_char, is_name_start, is_name_char, is_spac
 use Rattle.markup.specs.Name.{Plain}
 use Rattle.markup.specs.Reference.{Ampersand as AmpersandEntity, Less as LessEntity, Named, Numbered, is_reference, number}
 use Rattle.markup.specs.Token.{Comment, Instruction, TypeDeclaration, Lf}
-use Rattle.markup.specs.Words.{word_text, letter_of}
-use Rattle.markup.specs.ReferenceScans.{reference_step, digit_step, first_digit, more_digits, digits_step, numbered_char, gives, letter_step}
-use Rattle.markup.specs.Scans.{step, fixed_ended, fits_letter, name_step, name_turn, name_word, referring, referring_in, behind_attribute_step, fixed_letter, field_letter, field_word_letter, field_end_step}
+use Rattle.markup.specs.inner.Words.{word_text, letter_of}
+use Rattle.markup.specs.inner.ReferenceScans.{reference_step, digit_step, first_digit, more_digits, digits_step, numbered_char, gives, letter_step}
+use Rattle.markup.specs.inner.Scans.{step, fixed_ended, fits_letter, name_step, name_turn, name_word, referring, referring_in, behind_attribute_step, fixed_letter, field_letter, field_word_letter, field_end_step}
 use Rattle.markup.specs.declared.word.Word.{Word}
 use Rattle.markup.specs.declared.word.Word.TheVariants.{Utf8, One, Yes}
 use Rattle.markup.specs.declared.reference.ReferenceScan.{ReferenceScan}

@@ -22,7 +22,7 @@ use Rattle.markup.specs.declared.open_bindings.Binding.{Binding}
 use Rattle.markup.specs.declared.bindings.Bindings.{Bindings}
 use Rattle.markup.specs.Events.{declared_prefix, same_prefix, bound_by}
 use Rattle.markup.specs.declared.origin.Origin.{Origin}
-use Rattle.markup.specs.Bindings.{declares, place_declared, prefix_declared, binding, bindings, place_in, Binds}
+use Rattle.markup.specs.inner.Bindings.{declares, place_declared, prefix_declared, binding, bindings, place_in, Binds}
 use Rattle.markup.proofs.RankLemmas.{same_compared}
 use Rattle.markup.specs.inner.Origins.{namespace_from}
 

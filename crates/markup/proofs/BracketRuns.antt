@@ -20,9 +20,9 @@ use Rattle.markup.specs.Events.{Placed, open_tags}
 use Rattle.markup.specs.Faults.{is_outside}
 use Rattle.markup.specs.Literals.{IsOfText, IsRun, IsBracketRun, characters_from}
 use Rattle.markup.specs.Scopes.{placed_at}
-use Rattle.markup.specs.Contexts.{IsContext, HasOpen, with_brackets}
-use Rattle.markup.specs.TokenRules.{one_more}
-use Rattle.markup.specs.Tokenizers.{is_text, is_in_text, after_whole_tokens}
+use Rattle.markup.specs.inner.Contexts.{IsContext, HasOpen, with_brackets}
+use Rattle.markup.specs.inner.TokenRules.{one_more}
+use Rattle.markup.specs.inner.Tokenizers.{is_text, is_in_text, after_whole_tokens}
 use Rattle.markup.specs.Reading.{HasTakenUnder, HasToldUnder}
 use Rattle.markup.specs.declared.context.Context.{Context}
 use Rattle.markup.specs.declared.reader.Reader.{Reader}

@@ -8,10 +8,10 @@ use Rattle.markup.specs.Chars.{is_space}
 use Rattle.markup.specs.Token.{Token, Mark, Declaration, Comment, Instruction, Opener, Closer, TypeDeclaration, Start, End, Refer, LineEnd, Character, token_bytes}
 use Rattle.markup.specs.Marks.{in_cdata, stands, Front}
 use Rattle.markup.specs.Faults.{is_outside, rule_of, IsClean}
-use Rattle.markup.specs.Drafts.{no_draft}
-use Rattle.markup.specs.ScanRuns.{At, Over, run, position, ended_of, draft_of, ends_itself}
-use Rattle.markup.specs.Tokenizers.{IsTokenOpen, SettlesOne, SettlesTwo}
-use Rattle.markup.specs.Inputs.{ReadsTokens, Any}
+use Rattle.markup.specs.inner.Drafts.{no_draft}
+use Rattle.markup.specs.inner.ScanRuns.{At, Over, run, position, ended_of, draft_of, ends_itself}
+use Rattle.markup.specs.inner.Tokenizers.{IsTokenOpen, SettlesOne, SettlesTwo}
+use Rattle.markup.specs.inner.Inputs.{ReadsTokens, Any}
 use Rattle.markup.specs.declared.scan.Scan.{Scan}
 use Rattle.markup.specs.declared.scan.Scan.TheVariants.{Begin}
 use Rattle.markup.specs.declared.scan.Ended.{Ended}

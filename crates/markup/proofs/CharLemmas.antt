@@ -7,7 +7,7 @@ use Rattle.std.proofs.lemmas.Bool.{or_left, or_right, or_cases, and_parts, and_f
 use Rattle.std.proofs.lemmas.Bool.Decides.{nat_tests}
 use Rattle.std.proofs.lemmas.Str.{length-encode, len_utf8_bounds}
 use Rattle.lexical_core.specs.Characters.{IsInSome, IsXmlChar, IsNameStart, IsNameChar}
-use Rattle.markup.specs.ReferenceScans.{numbered_char}
+use Rattle.markup.specs.inner.ReferenceScans.{numbered_char}
 use Rattle.markup.specs.Chars.{is_xml_char, is_name_start, is_name_char, is_space, in_some, xml_ranges, name_start_ranges, name_more_ranges, AreClasses}
 
 -- white space is no character of a name, and no colon

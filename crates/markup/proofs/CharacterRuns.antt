@@ -17,11 +17,11 @@ use Rattle.markup.specs.Events.{Placed, items_of, open_tags}
 use Rattle.markup.specs.Faults.{is_outside, is_bracket, behind_brackets, rule_of}
 use Rattle.markup.specs.Literals.{is_literal, is_still_literal, literal_front, IsLiteral, IsRun, characters_from}
 use Rattle.markup.specs.Scopes.{placed_at}
-use Rattle.markup.specs.ScanRuns.{run, position, placed_by}
-use Rattle.markup.specs.Drafts.{no_draft}
-use Rattle.markup.specs.Contexts.{IsContext, HasOpen, without_brackets}
-use Rattle.markup.specs.TokenRules.{one_more, brackets, is_cdata}
-use Rattle.markup.specs.Tokenizers.{is_between, is_ready}
+use Rattle.markup.specs.inner.ScanRuns.{run, position, placed_by}
+use Rattle.markup.specs.inner.Drafts.{no_draft}
+use Rattle.markup.specs.inner.Contexts.{IsContext, HasOpen, without_brackets}
+use Rattle.markup.specs.inner.TokenRules.{one_more, brackets, is_cdata}
+use Rattle.markup.specs.inner.Tokenizers.{is_between, is_ready}
 use Rattle.markup.specs.Reading.{HasTakenUnder, HasToldUnder, IsInsideUnder}
 use Rattle.markup.specs.inner.ReaderSteps.{IsReaderReady, bars_closer, passed_over}
 use Rattle.markup.specs.declared.context.Context.{Context}

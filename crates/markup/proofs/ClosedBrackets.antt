@@ -20,10 +20,10 @@ use Rattle.markup.specs.Events.{Placed, items_of, open_tags}
 use Rattle.markup.specs.Faults.{is_outside, behind_brackets}
 use Rattle.markup.specs.Literals.{is_literal, IsOfText, IsBracketRun, characters_from}
 use Rattle.markup.specs.Scopes.{placed_at}
-use Rattle.markup.specs.Contexts.{IsContext, HasOpen}
-use Rattle.markup.specs.TokenRules.{one_more}
-use Rattle.markup.specs.Tokenizers.{is_between}
-use Rattle.markup.specs.Inputs.{Any}
+use Rattle.markup.specs.inner.Contexts.{IsContext, HasOpen}
+use Rattle.markup.specs.inner.TokenRules.{one_more}
+use Rattle.markup.specs.inner.Tokenizers.{is_between}
+use Rattle.markup.specs.inner.Inputs.{Any}
 use Rattle.markup.specs.Reading.{Keeps, HasTakenUnder, HasToldUnder}
 use Rattle.markup.specs.inner.ClosedBrackets.{IsClosedRun}
 use Rattle.markup.specs.inner.ReaderSteps.{IsReaderReady, passed_over}

@@ -10,9 +10,9 @@ use Rattle.markup.specs.Reference.{Reference, is_reference, referred_character, 
 use Rattle.markup.specs.Attribute.{attribute_text}
 use Rattle.markup.specs.Token.{Token, Mark, Declaration, Comment, Instruction, Opener, Closer, TypeDeclaration, Start, End, Refer, LineEnd, Character, Line, Lf, Cr, CrLf, is_comment, is_instruction_text, is_instruction, is_xml_word, token_text}
 use Rattle.markup.specs.Marks.{in_cdata, is_first, stands, stands_in_cdata, stands_outside}
-use Rattle.markup.specs.Drafts.{no_draft, note_character, value_noted}
-use Rattle.markup.specs.ScanRuns.{placed_by, position, ended_of, draft_of, ends_itself}
-use Rattle.markup.specs.Scans.{step, text_step, cdata_step, line_step, referring, target_step}
+use Rattle.markup.specs.inner.Drafts.{no_draft, note_character, value_noted}
+use Rattle.markup.specs.inner.ScanRuns.{placed_by, position, ended_of, draft_of, ends_itself}
+use Rattle.markup.specs.inner.Scans.{step, text_step, cdata_step, line_step, referring, target_step}
 use Rattle.markup.specs.declared.draft.Draft.{Draft}
 use Rattle.markup.specs.declared.reference.ReferenceScan.TheVariants.{Begun}
 use Rattle.markup.specs.declared.scan.Scan.{Scan}
@@ -29,7 +29,7 @@ use Rattle.markup.proofs.TagRuns.{start_tag_run, end_tag_run}
 use Rattle.markup.proofs.DeclarationRuns.{declaration_run}
 use Rattle.markup.proofs.Runs.{goes, ends, alike_runs}
 use Rattle.markup.proofs.Spans.{heads}
-use Rattle.markup.specs.ScanRuns.{Over, run}
+use Rattle.markup.specs.inner.ScanRuns.{Over, run}
 
 -- the scans that say nothing of a value
 abbrev plain : Scan → Bool

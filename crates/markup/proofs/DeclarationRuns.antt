@@ -10,9 +10,9 @@ use Rattle.markup.specs.Chars.{is_space, is_gap}
 use Rattle.markup.specs.Name.{name_text}
 use Rattle.markup.specs.Attribute.{Attribute, piece_text, attribute_text}
 use Rattle.markup.specs.Declaration.{is_field, is_version, is_encoding, is_standalone, is_declaration}
-use Rattle.markup.specs.Words.{letter_of}
-use Rattle.markup.specs.Drafts.{note_character}
-use Rattle.markup.specs.Scans.{step, name_word, field_letter}
+use Rattle.markup.specs.inner.Words.{letter_of}
+use Rattle.markup.specs.inner.Drafts.{note_character}
+use Rattle.markup.specs.inner.Scans.{step, name_word, field_letter}
 use Rattle.markup.specs.declared.draft.Draft.{Draft}
 use Rattle.markup.specs.declared.word.Word.{Word}
 use Rattle.markup.specs.declared.word.Word.TheVariants.{One, Utf8, Yes, No}
@@ -26,7 +26,7 @@ use Rattle.markup.proofs.CharLemmas.{space_no_name, equals_no_space, quote_no_sp
 use Rattle.markup.proofs.AttributeLemmas.{IsAttribute, attribute_facts, attribute_then, attributes_then}
 use Rattle.markup.proofs.Spans.{heads, tails}
 use Rattle.markup.proofs.Runs.{goes, spaces_run}
-use Rattle.markup.specs.ScanRuns.{Over, run}
+use Rattle.markup.specs.inner.ScanRuns.{Over, run}
 
 -- an attribute with this name and value, as they are written
 pub record IsField (name value : List ℕ) (a : Attribute) : Type 0 where

@@ -9,8 +9,8 @@ use Rattle.markup.specs.Chars.{is_xml_char, is_name_start, is_name_char, is_spac
 use Rattle.markup.specs.Name.{Plain, is_name, name_text}
 use Rattle.markup.specs.Attribute.{Literal, is_piece, piece_text, Attribute, is_attribute, attribute_text}
 use Rattle.markup.specs.Declaration.{is_version, is_encoding, is_standalone, is_declaration}
-use Rattle.markup.specs.Words.{word_text}
-use Rattle.markup.specs.Scans.{name_word, field_end_step, field_gap_step}
+use Rattle.markup.specs.inner.Words.{word_text}
+use Rattle.markup.specs.inner.Scans.{name_word, field_end_step, field_gap_step}
 use Rattle.markup.specs.declared.word.Word.{Word}
 use Rattle.markup.specs.declared.word.Word.TheVariants.{One, Utf8, Yes, No}
 use Rattle.markup.specs.declared.scan.Field.{Field}

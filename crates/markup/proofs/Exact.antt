@@ -4,9 +4,9 @@ use Rattle.std.proofs.lemmas.Bool.{and_parts, not-false, both_ways, cases_Bool, 
 use Rattle.markup.specs.Token.{Token, LineEnd, Character, Lf, Cr, CrLf, token_text}
 use Rattle.markup.specs.Marks.{in_cdata, stands}
 use Rattle.markup.specs.Faults.{TokenGoesOn}
-use Rattle.markup.specs.Drafts.{no_draft, note_character}
-use Rattle.markup.specs.Scans.{step}
-use Rattle.markup.specs.ScanRuns.{Run, At, Over, Failed, turn_run, run, position, ended_of, draft_of, ends_itself, ReadToken, ReadsGrammar}
+use Rattle.markup.specs.inner.Drafts.{no_draft, note_character}
+use Rattle.markup.specs.inner.Scans.{step}
+use Rattle.markup.specs.inner.ScanRuns.{Run, At, Over, Failed, turn_run, run, position, ended_of, draft_of, ends_itself, ReadToken, ReadsGrammar}
 use Rattle.markup.specs.declared.draft.Draft.{Draft}
 use Rattle.markup.specs.declared.scan.Scan.{Scan}
 use Rattle.markup.specs.declared.scan.Scan.TheVariants.{Begin, AfterReturn, Bracket}

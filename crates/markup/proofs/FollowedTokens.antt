@@ -8,11 +8,11 @@ use Rattle.markup.specs.Marks.{Cell, Front, stands, is_short}
 use Rattle.markup.specs.Events.{Placed, events, items_of}
 use Rattle.markup.specs.Faults.{rule_of}
 use Rattle.markup.specs.Scopes.{placed_at}
-use Rattle.markup.specs.Contexts.{IsContext}
-use Rattle.markup.specs.Drafts.{no_draft}
-use Rattle.markup.specs.ScanRuns.{At, position, ended_of}
-use Rattle.markup.specs.Tokenizers.{after_other, behind_token, is_between, after_whole_tokens, IsTokenOpen, open_at, FinishesBy}
-use Rattle.markup.specs.Inputs.{ReadsTokens, with_pending}
+use Rattle.markup.specs.inner.Contexts.{IsContext}
+use Rattle.markup.specs.inner.Drafts.{no_draft}
+use Rattle.markup.specs.inner.ScanRuns.{At, position, ended_of}
+use Rattle.markup.specs.inner.Tokenizers.{after_other, behind_token, is_between, after_whole_tokens, IsTokenOpen, open_at, FinishesBy}
+use Rattle.markup.specs.inner.Inputs.{ReadsTokens, with_pending}
 use Rattle.markup.specs.Reading.{Keeps}
 use Rattle.markup.specs.inner.AsideTexts.{after_token}
 use Rattle.markup.specs.declared.context.Context.{Context}

@@ -6,12 +6,12 @@ use Rattle.std.proofs.lemmas.Bool.{and_parts, both_ways, cases_Bool}
 use Rattle.std.proofs.lemmas.Str.{encode_ascii, length-encode, len_utf8_bounds}
 use Rattle.markup.specs.Chars.{is_xml_char, is_name_start, is_space}
 use Rattle.markup.specs.Events.{Placed}
-use Rattle.markup.specs.Words.{letter_of}
-use Rattle.markup.specs.Drafts.{no_draft, literal_char, given_by, given_char, add, value_noted, note_character, held_name, held_all, draft_size}
-use Rattle.markup.specs.ReferenceScans.{entity_char_of, letter_step, gives, numbered_char, digit_step, first_digit, more_digits, reference_step}
-use Rattle.markup.specs.Scans.{step, name_step, name_turn, referring, referring_in, text_step, line_step, behind_attribute_step, before_equals_step, end_gap_step}
-use Rattle.markup.specs.ScanRuns.{At, turn_run, run, position}
-use Rattle.markup.specs.Tokenizers.{is_tag, IsTokenOpen}
+use Rattle.markup.specs.inner.Words.{letter_of}
+use Rattle.markup.specs.inner.Drafts.{no_draft, literal_char, given_by, given_char, add, value_noted, note_character, held_name, held_all, draft_size}
+use Rattle.markup.specs.inner.ReferenceScans.{entity_char_of, letter_step, gives, numbered_char, digit_step, first_digit, more_digits, reference_step}
+use Rattle.markup.specs.inner.Scans.{step, name_step, name_turn, referring, referring_in, text_step, line_step, behind_attribute_step, before_equals_step, end_gap_step}
+use Rattle.markup.specs.inner.ScanRuns.{At, turn_run, run, position}
+use Rattle.markup.specs.inner.Tokenizers.{is_tag, IsTokenOpen}
 use Rattle.markup.specs.Reading.{HasTakenUnder, open_token_held}
 use Rattle.markup.specs.declared.draft.Draft.{Draft}
 use Rattle.markup.specs.declared.reader.Reader.{Reader}

@@ -9,10 +9,10 @@ use Rattle.lexical_core.specs.declared.rule.Rule.TheVariants.{Truncated}
 use Rattle.markup.specs.Token.{Token, LineEnd, Cr, token_bytes}
 use Rattle.markup.specs.Marks.{Cell, Front, Agree}
 use Rattle.markup.specs.Faults.{is_over, IsClean, NoToken, Next, broken, halts, cut, too_long, Fault, MarkFaultUnder, IsWholeUnder}
-use Rattle.markup.specs.Drafts.{no_draft}
-use Rattle.markup.specs.ScanRuns.{position}
-use Rattle.markup.specs.Tokenizers.{open_at, Finishes, FinishesBy}
-use Rattle.markup.specs.Inputs.{ReadsTokens, Any, with_pending, is_cut}
+use Rattle.markup.specs.inner.Drafts.{no_draft}
+use Rattle.markup.specs.inner.ScanRuns.{position}
+use Rattle.markup.specs.inner.Tokenizers.{open_at, Finishes, FinishesBy}
+use Rattle.markup.specs.inner.Inputs.{ReadsTokens, Any, with_pending, is_cut}
 use Rattle.markup.specs.Longest.{IsLongestUnder}
 use Rattle.markup.specs.declared.scan.Scan.TheVariants.{Begin}
 use Rattle.markup.specs.declared.tokenizer.Finish.{Finish}

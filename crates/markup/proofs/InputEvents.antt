@@ -12,11 +12,11 @@ use Rattle.markup.specs.Marks.{stands}
 use Rattle.markup.specs.Events.{open_tags, events}
 use Rattle.markup.specs.Faults.{Next}
 use Rattle.markup.specs.Scopes.{placed_at}
-use Rattle.markup.specs.Drafts.{no_draft}
-use Rattle.markup.specs.ScanRuns.{At, Over, Failed, run, position}
-use Rattle.markup.specs.Tokenizers.{IsAwaited, IsTokenOpen, EndsToken, SettlesOne, SettlesTwo, Settles, SettlesBy, Finishes, FinishesBy}
-use Rattle.markup.specs.TokenRules.{items_by}
-use Rattle.markup.specs.Inputs.{with_pending, is_return, settled_tokens, settled_events}
+use Rattle.markup.specs.inner.Drafts.{no_draft}
+use Rattle.markup.specs.inner.ScanRuns.{At, Over, Failed, run, position}
+use Rattle.markup.specs.inner.Tokenizers.{IsAwaited, IsTokenOpen, EndsToken, SettlesOne, SettlesTwo, Settles, SettlesBy, Finishes, FinishesBy}
+use Rattle.markup.specs.inner.TokenRules.{items_by}
+use Rattle.markup.specs.inner.Inputs.{with_pending, is_return, settled_tokens, settled_events}
 use Rattle.markup.specs.declared.draft.Draft.{Draft}
 use Rattle.markup.specs.declared.scan.Scan.{Scan}
 use Rattle.markup.specs.declared.scan.Scan.TheVariants.{Begin}

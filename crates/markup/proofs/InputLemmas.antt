@@ -7,8 +7,8 @@ use Rattle.lexical_core.specs.declared.rule.Rule.{Rule}
 use Rattle.markup.specs.Token.{Token, Character, token_bytes}
 use Rattle.markup.specs.Marks.{stands, Cell, Front, is_short}
 use Rattle.markup.specs.Faults.{rule_of, IsClean, Next, MarkFaultUnder}
-use Rattle.markup.specs.Tokenizers.{IsTokenOpen, EndsToken, SettlesOne, SettlesTwo}
-use Rattle.markup.specs.Inputs.{ReadsTokens, Begins, Any}
+use Rattle.markup.specs.inner.Tokenizers.{IsTokenOpen, EndsToken, SettlesOne, SettlesTwo}
+use Rattle.markup.specs.inner.Inputs.{ReadsTokens, Begins, Any}
 use Rattle.markup.specs.declared.draft.Draft.{Draft}
 use Rattle.markup.specs.declared.scan.Ended.{Ended}
 use Rattle.markup.specs.declared.tokenizer.Tokenizer.{Tokenizer}

@@ -4,8 +4,8 @@ use Rattle.std.specs.List.{flat_map}
 use Rattle.lexical_core.specs.declared.rule.Rule.{Rule}
 use Rattle.markup.specs.Token.{Token, LineEnd, Character, Cr, token_bytes}
 use Rattle.markup.specs.Faults.{IsClean, Next, broken, MarkFaultUnder}
-use Rattle.markup.specs.Tokenizers.{Outcome, More, EndedToken, Refused, IsAwaited, EndsToken, Advances, AdvancesBy, Settles, SettlesBy}
-use Rattle.markup.specs.Inputs.{ReadsTokens, Begins, Any, settled_tokens, SettlesInput, ShowsRule, ReadsToken, AdvancesInput}
+use Rattle.markup.specs.inner.Tokenizers.{Outcome, More, EndedToken, Refused, IsAwaited, EndsToken, Advances, AdvancesBy, Settles, SettlesBy}
+use Rattle.markup.specs.inner.Inputs.{ReadsTokens, Begins, Any, settled_tokens, SettlesInput, ShowsRule, ReadsToken, AdvancesInput}
 use Rattle.markup.specs.declared.draft.Draft.{Draft}
 use Rattle.markup.specs.declared.scan.Ended.{Ended}
 use Rattle.markup.specs.declared.tokenizer.Settled.{Settled}

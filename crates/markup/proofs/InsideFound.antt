@@ -8,11 +8,11 @@ use Rattle.markup.specs.Ascii.{is_ascii}
 use Rattle.markup.specs.Token.{Token, LineEnd, Character, Lf, Cr, CrLf, token_text}
 use Rattle.markup.specs.Marks.{in_cdata}
 use Rattle.markup.specs.Events.{Placed}
-use Rattle.markup.specs.Drafts.{no_draft, note_character}
+use Rattle.markup.specs.inner.Drafts.{no_draft, note_character}
 use Rattle.markup.specs.Reading.{MayTakeInsideUnder}
-use Rattle.markup.specs.Scans.{step}
-use Rattle.markup.specs.ScanRuns.{Run, At, Over, Failed, turn_run, run, position, ended_of, draft_of, ends_itself}
-use Rattle.markup.specs.Tokenizers.{IsTokenOpen}
+use Rattle.markup.specs.inner.Scans.{step}
+use Rattle.markup.specs.inner.ScanRuns.{Run, At, Over, Failed, turn_run, run, position, ended_of, draft_of, ends_itself}
+use Rattle.markup.specs.inner.Tokenizers.{IsTokenOpen}
 use Rattle.markup.specs.inner.Inside.{GoesByOne, GoesByAll, is_inside}
 use Rattle.markup.specs.declared.draft.Draft.{Draft}
 use Rattle.markup.specs.declared.reader.Reader.{Reader}

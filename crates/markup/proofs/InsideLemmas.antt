@@ -9,12 +9,12 @@ use Rattle.markup.specs.Token.{Token, LineEnd, Cr, token_bytes}
 use Rattle.markup.specs.Marks.{Front}
 use Rattle.markup.specs.Events.{Placed, events}
 use Rattle.markup.specs.Faults.{IsTagBegun}
-use Rattle.markup.specs.Drafts.{no_draft}
-use Rattle.markup.specs.Inputs.{Any, with_pending}
+use Rattle.markup.specs.inner.Drafts.{no_draft}
+use Rattle.markup.specs.inner.Inputs.{Any, with_pending}
 use Rattle.markup.specs.inner.Inside.{GoesOver, is_inside, may_be_tag, after_count, GoesInside}
 use Rattle.markup.specs.Reading.{HasTakenUnder, HasToldUnder}
-use Rattle.markup.specs.ScanRuns.{At, run, position}
-use Rattle.markup.specs.Tokenizers.{is_tag, with_scan, is_pending, IsTokenOpen, open_at, FinishesBy}
+use Rattle.markup.specs.inner.ScanRuns.{At, run, position}
+use Rattle.markup.specs.inner.Tokenizers.{is_tag, with_scan, is_pending, IsTokenOpen, open_at, FinishesBy}
 use Rattle.markup.specs.declared.draft.Draft.{Draft}
 use Rattle.markup.specs.declared.reader.Reader.{Reader}
 use Rattle.markup.specs.declared.scan.Position.{Position}

@@ -8,11 +8,11 @@ use Rattle.std.proofs.lemmas.Bool.Decides.{nat_tests}
 use Rattle.std.proofs.lemmas.Str.{encode_ascii}
 use Rattle.markup.specs.Chars.{is_xml_char, is_space}
 use Rattle.markup.specs.PlainTags.{continues_plain}
-use Rattle.markup.specs.Drafts.{note_character, literal_char, add_value}
+use Rattle.markup.specs.inner.Drafts.{note_character, literal_char, add_value}
 use Rattle.markup.specs.PlainStarts.{is_literal_of}
 use Rattle.markup.specs.inner.Inside.{is_passed, extend_name, noted_all, IsStill}
-use Rattle.markup.specs.Scans.{step}
-use Rattle.markup.specs.ScanRuns.{At, turn_run, run}
+use Rattle.markup.specs.inner.Scans.{step}
+use Rattle.markup.specs.inner.ScanRuns.{At, turn_run, run}
 use Rattle.markup.specs.declared.draft.Draft.{Draft}
 use Rattle.markup.specs.declared.tag.Spelled.{Spelled}
 use Rattle.markup.specs.declared.scan.NameScan.{NameScan}

@@ -52,6 +52,7 @@ pub mod InsideFound
 pub mod SettleLemmas
 pub mod InputLemmas
 pub mod InputEnds
+mod OpenDepth
 pub mod TokenRuleLemmas
 pub mod EventLemmas
 pub mod CdataLemmas

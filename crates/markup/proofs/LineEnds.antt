@@ -4,9 +4,9 @@ use Rattle.std.specs.Char.{encode_utf8}
 use Rattle.std.specs.Str.{encode_utf8_all}
 use Rattle.markup.specs.Token.{Token, LineEnd, Cr, CrLf, token_bytes}
 use Rattle.markup.specs.Marks.{in_cdata, stands}
-use Rattle.markup.specs.Drafts.{no_draft}
-use Rattle.markup.specs.ScanRuns.{At, run, position}
-use Rattle.markup.specs.Tokenizers.{IsAwaited, IsTokenOpen, EndsToken}
+use Rattle.markup.specs.inner.Drafts.{no_draft}
+use Rattle.markup.specs.inner.ScanRuns.{At, run, position}
+use Rattle.markup.specs.inner.Tokenizers.{IsAwaited, IsTokenOpen, EndsToken}
 use Rattle.markup.specs.declared.scan.Scan.{Scan}
 use Rattle.markup.specs.declared.scan.Scan.TheVariants.{Begin, AfterReturn}
 use Rattle.markup.specs.declared.scan.Ended.{Ended}

@@ -1,7 +1,7 @@
 -- A name more or less in the block of the names of the open elements.
 use Rattle.std.proofs.Common.{◌≡◌, ℕ, ◌-◌, List, [], ◌∷◌, ◌++◌, length, take, drop, map, sym, ◌∙◌, ap, append_assoc, length-append, arith}
 use Rattle.std.proofs.Math.Seq.{take-append_seam, drop-append_seam}
-use Rattle.markup.specs.OpenNames.{OpenName, all_bytes, name_size, KeepsNames, IsInnermost}
+use Rattle.markup.specs.inner.OpenNames.{OpenName, all_bytes, name_size, KeepsNames, IsInnermost}
 use Rattle.markup.specs.declared.open_names.NameSize.{NameSize}
 use Rattle.markup.specs.declared.open_names.OpenNames.{OpenNames}
 use Rattle.markup.specs.declared.tag.Spelled.{Spelled}

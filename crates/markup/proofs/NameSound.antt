@@ -8,9 +8,9 @@ use Rattle.std.proofs.lemmas.Option.{slice_get_within, get_or_from_slice_get, sl
 use Rattle.markup.specs.Chars.{is_xml_char, is_name_start, is_name_char}
 use Rattle.markup.specs.Name.{Plain, Prefixed}
 use Rattle.markup.specs.Reference.{Ampersand as AmpersandEntity, Less as LessEntity, Greater as GreaterEntity, Apostrophe as ApostropheEntity, Quote as QuoteEntity, Reference, Named, Numbered, is_reference}
-use Rattle.markup.specs.Words.{word_text, letter_of}
-use Rattle.markup.specs.ReferenceScans.{reference_step, digit_step, first_digit, more_digits, digits_step, numbered_char, gives, letter_step}
-use Rattle.markup.specs.Scans.{name_step}
+use Rattle.markup.specs.inner.Words.{word_text, letter_of}
+use Rattle.markup.specs.inner.ReferenceScans.{reference_step, digit_step, first_digit, more_digits, digits_step, numbered_char, gives, letter_step}
+use Rattle.markup.specs.inner.Scans.{name_step}
 use Rattle.markup.specs.declared.word.Word.{Word}
 use Rattle.markup.specs.declared.reference.ReferenceScan.{ReferenceScan}
 use Rattle.markup.specs.declared.reference.ReferenceScan.TheVariants.{Begun, LetterA, Name as NameOf, Hash, HashX, Decimal, Hexadecimal}

@@ -8,8 +8,8 @@ use Rattle.lexical_core.specs.Utf8.{IsFront, IsNoFront}
 use Rattle.markup.specs.Token.{Token, LineEnd, Character, Lf, Cr, CrLf, token_text}
 use Rattle.markup.specs.Marks.{in_cdata, begins_with, shows_no_closer, stands}
 use Rattle.markup.specs.Faults.{TokenGoesOn, NoToken}
-use Rattle.markup.specs.Drafts.{no_draft, note_character}
-use Rattle.markup.specs.ScanRuns.{Run, At, Over, turn_run, run, position, ended_of, draft_of, ends_itself}
+use Rattle.markup.specs.inner.Drafts.{no_draft, note_character}
+use Rattle.markup.specs.inner.ScanRuns.{Run, At, Over, turn_run, run, position, ended_of, draft_of, ends_itself}
 use Rattle.markup.specs.declared.draft.Draft.{Draft}
 use Rattle.markup.specs.declared.scan.Scan.{Scan}
 use Rattle.markup.specs.declared.scan.Scan.TheVariants.{Begin, AfterReturn, Bracket, Brackets}

@@ -8,7 +8,7 @@ use Rattle.std.proofs.lemmas.Bool.{and_parts, and_from, both_ways, or_cases, eqb
 use Rattle.std.proofs.lemmas.Bool.Decides.{nat_tests}
 use Rattle.markup.specs.Chars.{is_xml_char}
 use Rattle.markup.specs.Reference.{Entity, Ampersand, Less, Greater, Apostrophe, Quote, entity_name, Reference, Named, Numbered, is_reference, reference_text, number}
-use Rattle.markup.specs.ReferenceScans.{digit_step, numbered_char}
+use Rattle.markup.specs.inner.ReferenceScans.{digit_step, numbered_char}
 use Rattle.markup.specs.References.{IsReferenceAt}
 use Rattle.markup.specs.inner.Numbers.{number_mark}
 use Rattle.markup.proofs.CharLemmas.{digit_no_semicolon, digit_no_x}

@@ -19,8 +19,8 @@ use Rattle.markup.proofs.TokenChars.{token_all, last_xml}
 use Rattle.markup.proofs.NoTokens.{Shorter, Longer, compare_texts, no_whole, front_no_front, char_no_front, no_token, fronts}
 use Rattle.markup.proofs.CharLemmas.{xml_scalar}
 use Rattle.markup.proofs.Complete.{complete}
-use Rattle.markup.specs.Drafts.{no_draft}
-use Rattle.markup.specs.ScanRuns.{Over, run, position, ended_of, draft_of, ends_itself}
+use Rattle.markup.specs.inner.Drafts.{no_draft}
+use Rattle.markup.specs.inner.ScanRuns.{Over, run, position, ended_of, draft_of, ends_itself}
 use Rattle.markup.specs.declared.scan.Scan.TheVariants.{Begin}
 use Rattle.markup.proofs.TokensBehind.{tokens_behind, behind}
 

@@ -7,11 +7,11 @@ use Rattle.lexical_core.specs.Tree.{Expanded}
 use Rattle.markup.specs.Token.{Token, StartTag}
 use Rattle.markup.specs.Events.{Placed, opening, open_tags, bound_by, namespace_of, start_tag_items, start_items, events}
 use Rattle.markup.specs.Faults.{start_rule, is_over}
-use Rattle.markup.specs.Contexts.{IsContext}
+use Rattle.markup.specs.inner.Contexts.{IsContext}
 use Rattle.markup.specs.PlainTags.{open_behind, innermost_namespace, name_behind}
 use Rattle.markup.specs.Reading.{HasTakenUnder, HasToldUnder}
 use Rattle.markup.specs.Scopes.{declarations, all_declarations, IsScope, placed_at}
-use Rattle.markup.specs.Tokenizers.{is_in_text, after_whole_tokens}
+use Rattle.markup.specs.inner.Tokenizers.{is_in_text, after_whole_tokens}
 use Rattle.markup.specs.TagAttributes.{tag_entry}
 use Rattle.markup.specs.inner.StartTags.{Opens, IsSameNamespace, TakesStartTag}
 use Rattle.markup.specs.inner.TagParts.{spelled_opening}

@@ -2,11 +2,11 @@
 use Rattle.std.proofs.Common.{◌≡◌, ℕ, Bool, true, false, not, ◌==◌, ◌||◌, ◌&&◌, ◌+◌, List, [], ◌∷◌, Option, Some, None, is_none, if◌then◌else◌, refl, sym, subst}
 use Rattle.std.proofs.lemmas.Bool.{both_ways, eqb-true}
 use Rattle.markup.specs.Chars.{is_xml_char, is_name_start, is_name_char, is_space}
-use Rattle.markup.specs.Words.{letter_of}
-use Rattle.markup.specs.ReferenceScans.{reference_step}
-use Rattle.markup.specs.Drafts.{note_character}
-use Rattle.markup.specs.Scans.{step, name_step, name_turn, fixed_ended, fits_letter, fixed_letter, field_letter, field_word_letter, field_end_step, behind_attribute_step, referring, referring_in, text_step, line_step}
-use Rattle.markup.specs.ScanRuns.{At, turn_run, run}
+use Rattle.markup.specs.inner.Words.{letter_of}
+use Rattle.markup.specs.inner.ReferenceScans.{reference_step}
+use Rattle.markup.specs.inner.Drafts.{note_character}
+use Rattle.markup.specs.inner.Scans.{step, name_step, name_turn, fixed_ended, fits_letter, fixed_letter, field_letter, field_word_letter, field_end_step, behind_attribute_step, referring, referring_in, text_step, line_step}
+use Rattle.markup.specs.inner.ScanRuns.{At, turn_run, run}
 use Rattle.markup.specs.inner.Inside.{is_inside}
 use Rattle.markup.specs.declared.draft.Draft.{Draft}
 use Rattle.markup.specs.declared.word.Word.{Word}

@@ -3,12 +3,12 @@ use Rattle.std.proofs.Common.{◌≡◌, ℕ, Bool, true, false, ◌==◌, ◌||
 use Rattle.std.proofs.lemmas.Bool.{both_ways, eqb-true, eqb-false}
 use Rattle.markup.specs.Chars.{is_xml_char, is_name_start, is_name_char, is_space}
 use Rattle.markup.specs.Faults.{ends_in_reference, is_in_reference, IsTagBegun}
-use Rattle.markup.specs.Words.{letter_of}
-use Rattle.markup.specs.ReferenceScans.{reference_step}
-use Rattle.markup.specs.Drafts.{note_character}
-use Rattle.markup.specs.Scans.{step, fixed_ended, fits_letter, fixed_letter, field_letter, field_word_letter, field_end_step, text_step, line_step, opened_step, referring}
-use Rattle.markup.specs.Tokenizers.{is_tag}
-use Rattle.markup.specs.ScanRuns.{At, turn_run, run}
+use Rattle.markup.specs.inner.Words.{letter_of}
+use Rattle.markup.specs.inner.ReferenceScans.{reference_step}
+use Rattle.markup.specs.inner.Drafts.{note_character}
+use Rattle.markup.specs.inner.Scans.{step, fixed_ended, fits_letter, fixed_letter, field_letter, field_word_letter, field_end_step, text_step, line_step, opened_step, referring}
+use Rattle.markup.specs.inner.Tokenizers.{is_tag}
+use Rattle.markup.specs.inner.ScanRuns.{At, turn_run, run}
 use Rattle.markup.specs.declared.draft.Draft.{Draft}
 use Rattle.markup.specs.declared.word.Word.{Word}
 use Rattle.markup.specs.declared.reference.ReferenceScan.{ReferenceScan}

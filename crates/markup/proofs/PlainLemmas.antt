@@ -12,13 +12,13 @@ use Rattle.markup.specs.Chars.{is_xml_char}
 use Rattle.markup.specs.Token.{Token}
 use Rattle.markup.specs.Marks.{in_cdata}
 use Rattle.markup.specs.Events.{Placed}
-use Rattle.markup.specs.Drafts.{no_draft}
-use Rattle.markup.specs.Scans.{line_step, goes_if, step}
-use Rattle.markup.specs.ScanRuns.{At, run, position, ended_of}
-use Rattle.markup.specs.Contexts.{IsContext}
-use Rattle.markup.specs.TokenRules.{is_cdata}
-use Rattle.markup.specs.Tokenizers.{EndedToken, after_other, on_turn, token_ended, after_character, byte_counted, is_plain_in, is_between, is_text, starts_plain, TakesAlone, TakesPlain, AdvancedBy, is_pending, IsAwaited, IsTokenOpen, Advances, SettlesBy, open_at, FinishesBy}
-use Rattle.markup.specs.Inputs.{is_return}
+use Rattle.markup.specs.inner.Drafts.{no_draft}
+use Rattle.markup.specs.inner.Scans.{line_step, goes_if, step}
+use Rattle.markup.specs.inner.ScanRuns.{At, run, position, ended_of}
+use Rattle.markup.specs.inner.Contexts.{IsContext}
+use Rattle.markup.specs.inner.TokenRules.{is_cdata}
+use Rattle.markup.specs.inner.Tokenizers.{EndedToken, after_other, on_turn, token_ended, after_character, byte_counted, is_plain_in, is_between, is_text, starts_plain, TakesAlone, TakesPlain, AdvancedBy, is_pending, IsAwaited, IsTokenOpen, Advances, SettlesBy, open_at, FinishesBy}
+use Rattle.markup.specs.inner.Inputs.{is_return}
 use Rattle.markup.specs.Reading.{HasTakenUnder, GoesOnUnder, StopsUnder}
 use Rattle.markup.specs.inner.ReaderSteps.{SettlesEvents, TokenAnswered}
 use Rattle.markup.specs.declared.draft.Draft.{Draft}

@@ -21,10 +21,10 @@ use Rattle.markup.specs.Marks.{in_cdata, is_first, stands, is_short, begins_with
 use Rattle.markup.specs.Events.{Placed, spelled_name, open_tags, namespace_of, expanded_in, start_tag_items, events, items_of}
 use Rattle.markup.specs.Faults.{rule_of, is_over, is_outside, has_start, end_rule}
 use Rattle.markup.specs.Scopes.{IsScope, placed_at}
-use Rattle.markup.specs.Contexts.{IsContext}
-use Rattle.markup.specs.Drafts.{no_draft}
-use Rattle.markup.specs.ScanRuns.{run, position, placed_by, ended_of}
-use Rattle.markup.specs.Tokenizers.{after_other, behind_token, is_between, is_in_text, is_text, after_whole_tokens}
+use Rattle.markup.specs.inner.Contexts.{IsContext}
+use Rattle.markup.specs.inner.Drafts.{no_draft}
+use Rattle.markup.specs.inner.ScanRuns.{run, position, placed_by, ended_of}
+use Rattle.markup.specs.inner.Tokenizers.{after_other, behind_token, is_between, is_in_text, is_text, after_whole_tokens}
 use Rattle.markup.specs.Reading.{HasTakenUnder, HasToldUnder, IsInTextUnder, MayTakeTagUnder, MayTakeStartUnder}
 use Rattle.markup.specs.PlainStarts.{PlainStart}
 use Rattle.markup.specs.PlainTags.{begins_plain, continues_plain, is_plain_name, joined_text, tag_text, tag_items, open_behind, innermost_namespace, name_behind, may_be_named, IsInsideOf, tags_behind, IsTagInside}

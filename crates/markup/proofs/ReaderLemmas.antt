@@ -4,7 +4,7 @@ use Rattle.std.specs.List.{flat_map}
 use Rattle.std.proofs.lemmas.Bool.{both_ways}
 use Rattle.lexical_core.specs.declared.rule.Rule.{Rule}
 use Rattle.lexical_core.specs.declared.rule.Rule.TheVariants.{Truncated}
-use Rattle.markup.specs.Drafts.{no_draft}
+use Rattle.markup.specs.inner.Drafts.{no_draft}
 use Rattle.markup.specs.Token.{Token, Start, End, LineEnd, Line, Cr, CrLf, token_bytes}
 use Rattle.markup.specs.Marks.{in_cdata, Cell, Front}
 use Rattle.markup.specs.Events.{Placed, events, items_of, open_tags}
@@ -12,11 +12,11 @@ use Rattle.markup.specs.Faults.{rule_of, IsClean, MarkFaultUnder, is_over}
 use Rattle.markup.specs.Longest.{IsLongestUnder}
 use Rattle.markup.specs.EventItems.{Tells, TellsFront, TellsClean}
 use Rattle.markup.specs.Scopes.{placed_at}
-use Rattle.markup.specs.Contexts.{IsContext, TakesToken}
-use Rattle.markup.specs.ScanRuns.{ended_of, draft_of}
-use Rattle.markup.specs.TokenRules.{items_by, is_cdata, ends_tag}
-use Rattle.markup.specs.Tokenizers.{More, EndedToken, Refused, without_draft, handed_out, IsTokenOpen, IsAwaited, Finishes, FinishesBy, SettlesBy, EndsToken, AdvancesBy, open_at}
-use Rattle.markup.specs.Inputs.{ReadsTokens, Any, Begins, with_pending, is_cut, is_return, settled_tokens, settled_events, SettlesInput, ReadsMore, ReadsToken}
+use Rattle.markup.specs.inner.Contexts.{IsContext, TakesToken}
+use Rattle.markup.specs.inner.ScanRuns.{ended_of, draft_of}
+use Rattle.markup.specs.inner.TokenRules.{items_by, is_cdata, ends_tag}
+use Rattle.markup.specs.inner.Tokenizers.{More, EndedToken, Refused, without_draft, handed_out, IsTokenOpen, IsAwaited, Finishes, FinishesBy, SettlesBy, EndsToken, AdvancesBy, open_at}
+use Rattle.markup.specs.inner.Inputs.{ReadsTokens, Any, Begins, with_pending, is_cut, is_return, settled_tokens, settled_events, SettlesInput, ReadsMore, ReadsToken}
 use Rattle.markup.specs.Reading.{Keeps, HasTakenUnder, HasToldUnder, GoesOnUnder, RefusesUnder, RunsOutUnder, StopsUnder, IsWhollyUnder}
 use Rattle.markup.specs.declared.reader.MarkError.{MarkError}
 use Rattle.markup.specs.declared.reader.MarkError.TheVariants.{Refused as RefusedBy, Memory as NoMemory}

@@ -5,11 +5,11 @@ use Rattle.std.proofs.lemmas.Bool.{and_parts, both_ways, not-true, not_from_fals
 use Rattle.std.proofs.lemmas.Bool.Decides.{nat_tests}
 use Rattle.markup.specs.Chars.{is_xml_char, is_name_start, is_name_char, is_space}
 use Rattle.markup.specs.Faults.{ends_in_reference}
-use Rattle.markup.specs.Words.{word_text, letter_of}
-use Rattle.markup.specs.ReferenceScans.{reference_step, digit_step, first_digit, more_digits, digits_step, numbered_char, gives, letter_step}
-use Rattle.markup.specs.Drafts.{note_character}
-use Rattle.markup.specs.Scans.{step, name_step, name_turn, behind_attribute_step, before_equals_step, after_equals_step, end_gap_step, value_step, referring_in}
-use Rattle.markup.specs.ScanRuns.{At, turn_run, run}
+use Rattle.markup.specs.inner.Words.{word_text, letter_of}
+use Rattle.markup.specs.inner.ReferenceScans.{reference_step, digit_step, first_digit, more_digits, digits_step, numbered_char, gives, letter_step}
+use Rattle.markup.specs.inner.Drafts.{note_character}
+use Rattle.markup.specs.inner.Scans.{step, name_step, name_turn, behind_attribute_step, before_equals_step, after_equals_step, end_gap_step, value_step, referring_in}
+use Rattle.markup.specs.inner.ScanRuns.{At, turn_run, run}
 use Rattle.markup.specs.declared.draft.Draft.{Draft}
 use Rattle.markup.specs.declared.word.Word.{Word}
 use Rattle.markup.specs.declared.word.Word.TheVariants.{Cdata as CdataWord, Doctype as DoctypeWord, Ampersand, Less, Greater, Apostrophe, Quote, Version as VersionWord, Encoding as EncodingWord, Standalone as StandaloneWord, One, Utf8, Yes, No}

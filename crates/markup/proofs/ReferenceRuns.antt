@@ -6,9 +6,9 @@ use Rattle.std.proofs.lemmas.Bool.{and_parts, and_from, or_cases, eqb-true, le-l
 use Rattle.std.proofs.lemmas.Bool.Decides.{nat_tests}
 use Rattle.markup.specs.Chars.{is_xml_char}
 use Rattle.markup.specs.Reference.{Ampersand, Less, Greater, Apostrophe, Quote, Reference, Named, Numbered, is_reference, referred_character, number}
-use Rattle.markup.specs.Drafts.{note_character}
-use Rattle.markup.specs.ReferenceScans.{reference_step, digit_step, first_digit, more_digits}
-use Rattle.markup.specs.Scans.{step}
+use Rattle.markup.specs.inner.Drafts.{note_character}
+use Rattle.markup.specs.inner.ReferenceScans.{reference_step, digit_step, first_digit, more_digits}
+use Rattle.markup.specs.inner.Scans.{step}
 use Rattle.markup.specs.declared.draft.Draft.{Draft}
 use Rattle.markup.specs.declared.word.Word.TheVariants.{Ampersand as AmpersandWord, Less as LessWord, Greater as GreaterWord, Apostrophe as ApostropheWord, Quote as QuoteWord}
 use Rattle.markup.specs.declared.reference.ReferenceScan.{ReferenceScan}
@@ -20,7 +20,7 @@ use Rattle.markup.specs.declared.scan.Turn.TheVariants.{Goes}
 use Rattle.markup.proofs.CharLemmas.{digit_no_x}
 use Rattle.markup.proofs.ReferenceLemmas.{body, IsNumbered, numbered_facts}
 use Rattle.markup.proofs.Runs.{goes}
-use Rattle.markup.specs.ScanRuns.{run}
+use Rattle.markup.specs.inner.ScanRuns.{run}
 
 -- how far a reference comes over these characters, where it does not end with them
 abbrev onward : (ReferenceScan → Option ReferenceScan) → ReferenceTurn → Option ReferenceScan

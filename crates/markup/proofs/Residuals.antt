@@ -8,8 +8,8 @@ use Rattle.markup.specs.Reference.{Reference, is_reference, number}
 use Rattle.markup.specs.Attribute.{ValuePiece, is_piece, piece_text, Attribute, is_attribute, attribute_text}
 use Rattle.markup.specs.Declaration.{is_declaration, is_encoding, is_standalone}
 use Rattle.markup.specs.Token.{Token, Mark, Declaration, Comment, Instruction, Opener, Closer, TypeDeclaration, Start, End, Refer, LineEnd, Character, is_start_tag, is_comment, is_instruction, is_instruction_text, token_text}
-use Rattle.markup.specs.Words.{word_text}
-use Rattle.markup.specs.Scans.{name_word}
+use Rattle.markup.specs.inner.Words.{word_text}
+use Rattle.markup.specs.inner.Scans.{name_word}
 use Rattle.markup.specs.declared.word.Word.{Word}
 use Rattle.markup.specs.declared.word.Word.TheVariants.{One, Utf8, Yes, No}
 use Rattle.markup.specs.declared.reference.ReferenceScan.{ReferenceScan}

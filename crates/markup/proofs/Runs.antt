@@ -7,9 +7,9 @@ use Rattle.std.proofs.lemmas.Bool.{and_parts, or_parts}
 use Rattle.markup.specs.Chars.{is_name_start, is_name_char, is_space}
 use Rattle.markup.specs.Name.{Name, Plain, Prefixed, is_name, name_text}
 use Rattle.markup.specs.Events.{spelled_name}
-use Rattle.markup.specs.Drafts.{no_name, add, note_character}
-use Rattle.markup.specs.Scans.{step, name_step, name_turn}
-use Rattle.markup.specs.ScanRuns.{Run, Over, turn_run, run}
+use Rattle.markup.specs.inner.Drafts.{no_name, add, note_character}
+use Rattle.markup.specs.inner.Scans.{step, name_step, name_turn}
+use Rattle.markup.specs.inner.ScanRuns.{Run, Over, turn_run, run}
 use Rattle.markup.specs.declared.tag.Spelled.{Spelled}
 use Rattle.markup.specs.declared.draft.Draft.{Draft}
 use Rattle.markup.specs.declared.scan.NameScan.{NameScan}

@@ -12,7 +12,7 @@ use Rattle.markup.specs.declared.event.Event.{Event}
 use Rattle.markup.specs.declared.attributes.Declared.{Declared}
 use Rattle.markup.specs.declared.attributes.TagAttribute.{TagAttribute}
 use Rattle.markup.specs.declared.attributes.Expanded.{Expanded}
-use Rattle.markup.specs.OpenNames.{OpenName, KeepsNames, IsInnermost}
+use Rattle.markup.specs.inner.OpenNames.{OpenName, KeepsNames, IsInnermost}
 use Rattle.markup.specs.declared.bindings.Bindings.{Bindings}
 use Rattle.markup.specs.declared.scope.Scope.{Scope}
 use Rattle.markup.specs.declared.scope.Stop.{Stop}
@@ -23,7 +23,7 @@ use Rattle.markup.specs.Events.{namespace_of, element_name, expanded_in, entries
 use Rattle.markup.specs.Faults.{has_clash, is_bad_attribute, start_rule}
 use Rattle.markup.specs.EventItems.{Tells, TellsFront, TellsClean}
 use Rattle.markup.specs.TagAttributes.{tag_entry}
-use Rattle.markup.specs.Bindings.{Binds}
+use Rattle.markup.specs.inner.Bindings.{Binds}
 use Rattle.markup.specs.Scopes.{declarations, open_name, all_declarations, IsScope, placed_at, StopsStart, TakesStart}
 use Rattle.markup.specs.PlainTags.{IsInsideOf}
 use Rattle.markup.specs.inner.WholeStarts.{named_by}

@@ -9,9 +9,9 @@ use Rattle.markup.specs.Chars.{is_xml_char}
 use Rattle.markup.specs.Token.{Token, LineEnd, Character, Cr, token_bytes}
 use Rattle.markup.specs.Marks.{in_cdata, shows_no_closer, stands}
 use Rattle.markup.specs.Faults.{NoToken, Next, cut}
-use Rattle.markup.specs.Drafts.{no_draft}
-use Rattle.markup.specs.ScanRuns.{At, run, position, placed_by}
-use Rattle.markup.specs.Tokenizers.{after_other, is_pending, IsAwaited, IsTokenOpen, at_next_token, second_bracket, settled_at, settle_character, SettlesOne, SettlesTwo, Settles, SettlesBy, open_at, Finishes, FinishesBy}
+use Rattle.markup.specs.inner.Drafts.{no_draft}
+use Rattle.markup.specs.inner.ScanRuns.{At, run, position, placed_by}
+use Rattle.markup.specs.inner.Tokenizers.{after_other, is_pending, IsAwaited, IsTokenOpen, at_next_token, second_bracket, settled_at, settle_character, SettlesOne, SettlesTwo, Settles, SettlesBy, open_at, Finishes, FinishesBy}
 use Rattle.markup.specs.declared.draft.Draft.{Draft}
 use Rattle.markup.specs.declared.scan.Position.TheVariants.{Cdata}
 use Rattle.markup.specs.declared.scan.Scan.{Scan}

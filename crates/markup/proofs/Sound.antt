@@ -9,8 +9,8 @@ use Rattle.markup.specs.Reference.{is_reference}
 use Rattle.markup.specs.Attribute.{attribute_text}
 use Rattle.markup.specs.Token.{Token, Mark, Declaration, Comment, Instruction, Opener, Closer, TypeDeclaration, Start, End, Refer, LineEnd, Character, Line, Lf, CrLf, StartTag, is_instruction, is_instruction_text, is_xml_word, token_text}
 use Rattle.markup.specs.Marks.{in_cdata, is_first, is_line_end, stands}
-use Rattle.markup.specs.Drafts.{note_character}
-use Rattle.markup.specs.Scans.{step, begin_step, text_step, line_step, opened_step, bang_step, question_step}
+use Rattle.markup.specs.inner.Drafts.{note_character}
+use Rattle.markup.specs.inner.Scans.{step, begin_step, text_step, line_step, opened_step, bang_step, question_step}
 use Rattle.markup.specs.declared.draft.Draft.{Draft}
 use Rattle.markup.specs.declared.scan.Field.TheVariants.{Version}
 use Rattle.markup.specs.declared.scan.Position.{Position}
@@ -31,7 +31,7 @@ use Rattle.markup.proofs.TagSound.{cons_same, behind_sound, gap_sound, before_eq
 use Rattle.markup.proofs.TextSound.{comment_text_sound, comment_hyphen_sound, fixed_sound, instruction_sound, mark_sound, target_sound, target_xml_sound, target_xm_sound, target_x_sound, declaration_gap_sound, field_before_sound, field_name_sound, field_after_sound, field_word_sound, field_value_sound}
 use Rattle.markup.proofs.DeclarationSound.{DeclarationMade, declaration_made, field_end_sound, field_gap_sound}
 use Rattle.markup.proofs.Residuals.{IsReference, NameThen, Spaced, Gapped, Tail, EndClose, CommentRest, TargetRest, FieldNamed, stands_less, LessToken, Rest, Then}
-use Rattle.markup.specs.ScanRuns.{Over, placed_by, position, run, turn_run}
+use Rattle.markup.specs.inner.ScanRuns.{Over, placed_by, position, run, turn_run}
 
 -- a token from its whole text
 whole : (t : Token) (w : List ℕ) → token_text t ++ [] ≡ w → token_text t ≡ w

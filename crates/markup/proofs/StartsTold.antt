@@ -17,9 +17,9 @@ use Rattle.markup.specs.Marks.{in_cdata, stands, is_short, Cell, Front}
 use Rattle.markup.specs.Events.{Placed, events, items_of}
 use Rattle.markup.specs.Faults.{rule_of, MarkFaultUnder, broken}
 use Rattle.markup.specs.Scopes.{placed_at}
-use Rattle.markup.specs.Contexts.{IsContext}
+use Rattle.markup.specs.inner.Contexts.{IsContext}
 use Rattle.markup.specs.Reading.{HasTakenUnder, HasToldUnder, RefusesUnder, RunsOutUnder}
-use Rattle.markup.specs.Tokenizers.{is_between, is_in_text, after_whole_tokens}
+use Rattle.markup.specs.inner.Tokenizers.{is_between, is_in_text, after_whole_tokens}
 use Rattle.markup.specs.inner.TagParts.{spelled_opening}
 use Rattle.markup.specs.inner.WholeStarts.{IsStartAt}
 use Rattle.markup.specs.declared.context.Context.{Context}

@@ -7,11 +7,11 @@ use Rattle.markup.specs.Reference.{Named, Numbered}
 use Rattle.markup.specs.Marks.{Cell, Front, stands, begins_with, in_cdata, tag_limit}
 use Rattle.markup.specs.Events.{Placed, events}
 use Rattle.markup.specs.Faults.{IsClean}
-use Rattle.markup.specs.Inputs.{with_pending}
+use Rattle.markup.specs.inner.Inputs.{with_pending}
 use Rattle.markup.specs.Reading.{HasTakenUnder, AreEventsUnder}
 use Rattle.markup.specs.declared.reader.Reader.{Reader}
 use Rattle.markup.specs.Standing.{NothingAtClean, OneNext, NothingBehindWhole, NoTokenBehindAll, TokensHaveBytes}
-use Rattle.markup.specs.Tokenizers.{Finishes, FinishesBy, open_at}
+use Rattle.markup.specs.inner.Tokenizers.{Finishes, FinishesBy, open_at}
 use Rattle.markup.specs.declared.tokenizer.Finish.{Finish}
 use Rattle.markup.specs.declared.tokenizer.Finish.TheVariants.{Nothing, Return, Open}
 use Rattle.markup.proofs.SettleLemmas.{finishes_by}

@@ -6,7 +6,7 @@ use Rattle.markup.specs.declared.attributes.Declared.{Declared}
 use Rattle.markup.specs.declared.bindings.Bindings.{Bindings}
 use Rattle.markup.specs.Events.{declared_prefix}
 use Rattle.markup.specs.Faults.{is_bad_declaration}
-use Rattle.markup.specs.Bindings.{Binds, declares}
+use Rattle.markup.specs.inner.Bindings.{Binds, declares}
 use Rattle.markup.specs.Scopes.{declarations}
 use Rattle.markup.specs.inner.TagParts.{declares_twice, declares_badly, AreDeclared}
 

@@ -10,8 +10,8 @@ use Rattle.markup.specs.Reference.{Reference, is_reference, referred_character}
 use Rattle.markup.specs.Attribute.{ValuePiece, Literal, Refers, is_piece, piece_text, Attribute, is_attribute, attribute_text, value_chars}
 use Rattle.markup.specs.Token.{StartTag, is_start_tag}
 use Rattle.markup.specs.Events.{spelled_name, given_attribute}
-use Rattle.markup.specs.Drafts.{add, no_name, no_draft, note_character, literal_char, given_by}
-use Rattle.markup.specs.Scans.{step, name_step, name_turn, referring_in}
+use Rattle.markup.specs.inner.Drafts.{add, no_name, no_draft, note_character, literal_char, given_by}
+use Rattle.markup.specs.inner.Scans.{step, name_step, name_turn, referring_in}
 use Rattle.markup.specs.declared.tag.Spelled.{Spelled}
 use Rattle.markup.specs.declared.tag.Given.{Given}
 use Rattle.markup.specs.declared.draft.Draft.{Draft}
@@ -29,7 +29,7 @@ use Rattle.markup.proofs.ReferenceRuns.{reference_end, reference_goes}
 use Rattle.markup.proofs.AttributeLemmas.{attribute_facts, attribute_then, IsLiteral, literal_facts, refers_begins, value_then, attributes_then}
 use Rattle.markup.proofs.TokenLemmas.{close, start_tag_facts}
 use Rattle.markup.proofs.Runs.{goes, ends, spaces_run, name_run, noted_start, noted_attribute, noted_end}
-use Rattle.markup.specs.ScanRuns.{Over, run}
+use Rattle.markup.specs.inner.ScanRuns.{Over, run}
 
 -- a draft by its parts
 abbrev pub draft : Spelled → List Given → Spelled → List ℕ → Draft

@@ -5,8 +5,8 @@ use Rattle.std.proofs.lemmas.Bool.{and_from, not_from_false, eqb-true}
 use Rattle.markup.specs.Chars.{is_xml_char, is_name_start, is_space}
 use Rattle.markup.specs.Name.{name_text}
 use Rattle.markup.specs.Attribute.{Literal, Refers, piece_text, Attribute, attribute_text}
-use Rattle.markup.specs.ReferenceScans.{reference_step}
-use Rattle.markup.specs.Scans.{name_step, name_turn, close_step, behind_attribute_step, gap_step, before_equals_step, after_equals_step, value_step, end_gap_step, referring, referring_in}
+use Rattle.markup.specs.inner.ReferenceScans.{reference_step}
+use Rattle.markup.specs.inner.Scans.{name_step, name_turn, close_step, behind_attribute_step, gap_step, before_equals_step, after_equals_step, value_step, end_gap_step, referring, referring_in}
 use Rattle.markup.specs.declared.reference.ReferenceScan.{ReferenceScan}
 use Rattle.markup.specs.declared.reference.ReferenceTurn.{ReferenceTurn}
 use Rattle.markup.specs.declared.reference.ReferenceTurn.TheVariants.{Continues, Gives, Breaks}

@@ -4,8 +4,8 @@ use Rattle.std.specs.Char.{to_ascii_lowercase}
 use Rattle.std.proofs.lemmas.Bool.{and_parts, and_from, and_left, and_right, not_from_false, both_ways, eqb-true}
 use Rattle.markup.specs.Chars.{is_xml_char, is_name_char, is_space}
 use Rattle.markup.specs.Token.{is_comment, is_instruction_text}
-use Rattle.markup.specs.Words.{word_text, letter_of}
-use Rattle.markup.specs.Scans.{comment_step, fixed_ended, fixed_step, fixed_letter, target_step, target_x_step, target_xm_step, target_xml_step, instruction_step, mark_step, declaration_gap_step, name_word, field_letter, field_name_step, field_before_step, field_after_step, field_value_step, fits_letter, field_word_letter, field_word_step}
+use Rattle.markup.specs.inner.Words.{word_text, letter_of}
+use Rattle.markup.specs.inner.Scans.{comment_step, fixed_ended, fixed_step, fixed_letter, target_step, target_x_step, target_xm_step, target_xml_step, instruction_step, mark_step, declaration_gap_step, name_word, field_letter, field_name_step, field_before_step, field_after_step, field_value_step, fits_letter, field_word_letter, field_word_step}
 use Rattle.markup.specs.declared.word.Word.{Word}
 use Rattle.markup.specs.declared.word.Word.TheVariants.{Utf8, One, Yes, No}
 use Rattle.markup.specs.declared.scan.Field.{Field}

@@ -4,9 +4,9 @@ use Rattle.markup.specs.Token.{Token, Mark, Declaration, Comment, Instruction, O
 use Rattle.markup.specs.Marks.{in_cdata, is_first}
 use Rattle.markup.specs.Events.{open_tags, items_of}
 use Rattle.markup.specs.Faults.{has_start, is_over, behind_brackets, rule_of}
-use Rattle.markup.specs.ScanRuns.{position, placed_by, ended_of, draft_of}
-use Rattle.markup.specs.Tokenizers.{IsTokenOpen}
-use Rattle.markup.specs.TokenRules.{rule_by, items_by, tags_by, started_by, brackets, brackets_by, is_cdata}
+use Rattle.markup.specs.inner.ScanRuns.{position, placed_by, ended_of, draft_of}
+use Rattle.markup.specs.inner.Tokenizers.{IsTokenOpen}
+use Rattle.markup.specs.inner.TokenRules.{rule_by, items_by, tags_by, started_by, brackets, brackets_by, is_cdata}
 use Rattle.markup.specs.declared.draft.Draft.{Draft}
 use Rattle.markup.specs.declared.scan.Ended.{Ended}
 use Rattle.markup.specs.declared.tokenizer.Tokenizer.{Tokenizer}

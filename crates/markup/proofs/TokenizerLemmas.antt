@@ -17,10 +17,10 @@ use Rattle.markup.specs.Attribute.{attribute_text}
 use Rattle.markup.specs.Token.{Token, Mark, Declaration, Comment, Instruction, Opener, Closer, TypeDeclaration, Start, End, Refer, LineEnd, Character, token_text, token_bytes}
 use Rattle.markup.specs.Marks.{in_cdata, is_first, stands, is_short, IsLimit}
 use Rattle.markup.specs.Faults.{TokenGoesOn, NoToken, IsTagBegun, no_char, bad_char, stuck, Next, halts, too_long}
-use Rattle.markup.specs.Drafts.{no_draft, note_character}
-use Rattle.markup.specs.Scans.{step}
-use Rattle.markup.specs.ScanRuns.{At, turn_run, run, placed_by, position, ended_of, ReadToken}
-use Rattle.markup.specs.Tokenizers.{Outcome, More, Refused, outcome, after_other, behind_token, is_tag, is_reference_open, stuck_rule, bound_outcome, token_ended, with_scan, on_turn, after_character, byte_counted, on_utf8, AdvancedBy, is_pending, IsAwaited, IsTokenOpen, EndsToken, Advances, AdvancesBy}
+use Rattle.markup.specs.inner.Drafts.{no_draft, note_character}
+use Rattle.markup.specs.inner.Scans.{step}
+use Rattle.markup.specs.inner.ScanRuns.{At, turn_run, run, placed_by, position, ended_of, ReadToken}
+use Rattle.markup.specs.inner.Tokenizers.{Outcome, More, Refused, outcome, after_other, behind_token, is_tag, is_reference_open, stuck_rule, bound_outcome, token_ended, with_scan, on_turn, after_character, byte_counted, on_utf8, AdvancedBy, is_pending, IsAwaited, IsTokenOpen, EndsToken, Advances, AdvancesBy}
 use Rattle.markup.specs.declared.scan.Scan.{Scan}
 use Rattle.markup.specs.declared.scan.Scan.TheVariants.{Begin, AfterReturn, Bracket, Brackets, Value, ValueReference}
 use Rattle.markup.specs.declared.scan.Ended.{Ended}

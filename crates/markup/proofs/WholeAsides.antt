@@ -10,10 +10,10 @@ use Rattle.markup.specs.Events.{Placed, items_of, open_tags}
 use Rattle.markup.specs.Faults.{is_outside, rule_of}
 use Rattle.markup.specs.Asides.{is_aside_in, MayTakeAsideUnder}
 use Rattle.markup.specs.Scopes.{placed_at}
-use Rattle.markup.specs.ScanRuns.{ended_of}
-use Rattle.markup.specs.Contexts.{IsContext, without_brackets}
-use Rattle.markup.specs.TokenRules.{is_cdata}
-use Rattle.markup.specs.Inputs.{Any}
+use Rattle.markup.specs.inner.ScanRuns.{ended_of}
+use Rattle.markup.specs.inner.Contexts.{IsContext, without_brackets}
+use Rattle.markup.specs.inner.TokenRules.{is_cdata}
+use Rattle.markup.specs.inner.Inputs.{Any}
 use Rattle.markup.specs.Reading.{HasTakenUnder, HasToldUnder}
 use Rattle.markup.specs.inner.AsideTexts.{IsAsideAt, passed_aside}
 use Rattle.markup.specs.inner.ReaderSteps.{IsReaderReady}

@@ -5,8 +5,8 @@ use Rattle.lexical_core.specs.Tree.{Char}
 use Rattle.markup.specs.Token.{Token, LineEnd, CrLf, token_bytes}
 use Rattle.markup.specs.Events.{Placed}
 use Rattle.markup.specs.Scopes.{placed_at}
-use Rattle.markup.specs.Contexts.{IsContext, without_brackets}
-use Rattle.markup.specs.Tokenizers.{is_between, is_in_text}
+use Rattle.markup.specs.inner.Contexts.{IsContext, without_brackets}
+use Rattle.markup.specs.inner.Tokenizers.{is_between, is_in_text}
 use Rattle.markup.specs.Reading.{HasTakenUnder, HasToldUnder}
 use Rattle.markup.specs.inner.ReaderSteps.{passed_over}
 use Rattle.markup.specs.declared.reader.Reader.{Reader}

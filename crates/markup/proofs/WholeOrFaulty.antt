@@ -11,9 +11,9 @@ use Rattle.lexical_core.specs.declared.utf8.Utf8.TheVariants.{More as MoreBytes,
 use Rattle.markup.specs.Token.{Token}
 use Rattle.markup.specs.Marks.{tag_limit}
 use Rattle.markup.specs.Faults.{rule_of, is_over, IsClean, Fault, MarkFault, IsWhole, WholeOrFaulty}
-use Rattle.markup.specs.Drafts.{no_draft}
-use Rattle.markup.specs.Tokenizers.{Outcome, More, EndedToken, Refused, AdvancedBy, on_utf8, byte_counted, settle_character, open_at, FinishesBy}
-use Rattle.markup.specs.Inputs.{ReadsTokens, Any, is_cut, AdvancesInput, SettlesInput, settled_tokens}
+use Rattle.markup.specs.inner.Drafts.{no_draft}
+use Rattle.markup.specs.inner.Tokenizers.{Outcome, More, EndedToken, Refused, AdvancedBy, on_utf8, byte_counted, settle_character, open_at, FinishesBy}
+use Rattle.markup.specs.inner.Inputs.{ReadsTokens, Any, is_cut, AdvancesInput, SettlesInput, settled_tokens}
 use Rattle.markup.specs.declared.scan.Position.TheVariants.{Start as AtStart}
 use Rattle.markup.specs.declared.scan.Scan.TheVariants.{Begin}
 use Rattle.markup.specs.declared.tokenizer.Settled.{Settled}

@@ -19,8 +19,8 @@ use Rattle.markup.specs.Marks.{in_cdata}
 use Rattle.markup.specs.Events.{Placed, open_tags}
 use Rattle.markup.specs.Faults.{is_outside}
 use Rattle.markup.specs.Scopes.{placed_at}
-use Rattle.markup.specs.Contexts.{IsContext, HasOpen, without_brackets}
-use Rattle.markup.specs.Tokenizers.{is_between, is_in_text}
+use Rattle.markup.specs.inner.Contexts.{IsContext, HasOpen, without_brackets}
+use Rattle.markup.specs.inner.Tokenizers.{is_between, is_in_text}
 use Rattle.markup.specs.Reading.{HasTakenUnder, HasToldUnder}
 use Rattle.markup.specs.inner.ReaderSteps.{passed_over}
 use Rattle.markup.specs.declared.reader.Reader.{Reader}

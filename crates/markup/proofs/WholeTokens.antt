@@ -5,10 +5,10 @@ use Rattle.markup.specs.Marks.{stands, is_short}
 use Rattle.markup.specs.Events.{Placed, events, items_of}
 use Rattle.markup.specs.Faults.{rule_of}
 use Rattle.markup.specs.Scopes.{placed_at}
-use Rattle.markup.specs.Contexts.{IsContext}
-use Rattle.markup.specs.ScanRuns.{ended_of}
-use Rattle.markup.specs.Tokenizers.{after_other, behind_token, is_between, after_whole_tokens}
-use Rattle.markup.specs.Inputs.{Any}
+use Rattle.markup.specs.inner.Contexts.{IsContext}
+use Rattle.markup.specs.inner.ScanRuns.{ended_of}
+use Rattle.markup.specs.inner.Tokenizers.{after_other, behind_token, is_between, after_whole_tokens}
+use Rattle.markup.specs.inner.Inputs.{Any}
 use Rattle.markup.specs.Reading.{HasTakenUnder}
 use Rattle.markup.specs.declared.context.Context.{Context}
 use Rattle.markup.specs.declared.reader.Reader.{Reader}

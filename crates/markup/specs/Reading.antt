@@ -9,11 +9,11 @@ use Rattle.markup.specs.Events.{Placed, events, open_tags}
 use Rattle.markup.specs.Faults.{IsClean, Fault, MarkFault, MarkFaultUnder, is_over, is_outside}
 use Rattle.markup.specs.Longest.{IsLongestUnder}
 use Rattle.markup.specs.EventItems.{Tells}
-use Rattle.markup.specs.Drafts.{draft_size}
-use Rattle.markup.specs.Tokenizers.{FinishesBy}
+use Rattle.markup.specs.inner.Drafts.{draft_size}
+use Rattle.markup.specs.inner.Tokenizers.{FinishesBy}
 use Rattle.markup.specs.declared.tokenizer.Finish.{Finish}
-use Rattle.markup.specs.Inputs.{ReadsTokens, Any, with_pending}
-use Rattle.markup.specs.Contexts.{IsContext}
+use Rattle.markup.specs.inner.Inputs.{ReadsTokens, Any, with_pending}
+use Rattle.markup.specs.inner.Contexts.{IsContext}
 use Rattle.markup.specs.PlainTags.{joined_text, tag_text, may_be_named, IsInsideOf}
 use Rattle.markup.specs.PlainStarts.{PlainStart, is_plain_start, plain_start_text}
 use Rattle.markup.specs.declared.plain_tag.TagKind.{TagKind}

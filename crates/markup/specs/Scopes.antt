@@ -1,18 +1,18 @@
--- What the open elements of a reader are, and what a tag does to them. Private functions alone cite this.
+-- What the open elements of a reader are, and what a tag does to them. Public clauses and other crates cite `placed_at` alone of it.
 use Rattle.std.specs.Prelude.{◌≡◌, ℕ, Bool, List, [], ◌∷◌, ◌++◌, map, length, drop, if◌then◌else◌, is_none, Some, None, Result, MatchResult}
 use Rattle.lexical_core.specs.Tree.{Item}
 use Rattle.markup.specs.declared.tag.Spelled.{Spelled}
 use Rattle.markup.specs.declared.tag.Given.{Given}
 use Rattle.markup.specs.declared.tag.Opening.{Opening}
 use Rattle.markup.specs.declared.event.Event.{Event}
-use Rattle.markup.specs.OpenNames.{OpenName, KeepsNames}
+use Rattle.markup.specs.inner.OpenNames.{OpenName, KeepsNames}
 use Rattle.markup.specs.declared.scope.Scope.{Scope}
 use Rattle.markup.specs.declared.scope.Stop.{Stop}
 use Rattle.markup.specs.declared.scope.Stop.TheVariants.{Rule as Breaks, Memory}
 use Rattle.markup.specs.Events.{Placed, declared_prefix, start_items, end_items}
 use Rattle.markup.specs.Faults.{start_rule, end_rule}
 use Rattle.markup.specs.EventItems.{Tells, TellsClean}
-use Rattle.markup.specs.Bindings.{Binds}
+use Rattle.markup.specs.inner.Bindings.{Binds}
 
 -- the attributes of a tag that declare a namespace
 abbrev pub declarations : List Given → List Given

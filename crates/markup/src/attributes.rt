@@ -8,7 +8,7 @@ ghost use Rattle.std.specs.Ordering.{is_lt};
 ghost use Rattle.lexical_core.specs.Names.{name_cmp};
 ghost use Rattle.markup.specs.Events.{declared_prefix, namespace_of};
 ghost use Rattle.markup.specs.EventItems.{entry_of};
-ghost use Rattle.markup.specs.Bindings.{Binds};
+ghost use Rattle.markup.specs.inner.Bindings.{Binds};
 ghost use Rattle.markup.specs.Scopes.{declarations, all_declarations};
 ghost use Rattle.markup.specs.TagAttributes.{tag_entry};
 ghost use Rattle.markup.specs.inner.Origins.{namespace_from};

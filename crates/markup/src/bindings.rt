@@ -6,7 +6,7 @@ ghost use Rattle.std.specs.Str.{bytes_eq};
 ghost use Rattle.std.specs.Cmp.Lexicographic.{slice_cmp};
 ghost use Rattle.std.specs.Ordering.{nat_cmp};
 ghost use Rattle.markup.specs.Events.{declared_prefix, namespace_of};
-ghost use Rattle.markup.specs.Bindings.{Binds, place_in, declares};
+ghost use Rattle.markup.specs.inner.Bindings.{Binds, place_in, declares};
 ghost use Rattle.markup.specs.inner.Origins.{declared_namespace, namespace_from};
 ghost use Rattle.markup.specs.Scopes.{all_declarations};
 

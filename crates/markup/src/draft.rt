@@ -1,7 +1,7 @@
 //! What an open tag has said so far.
 ghost use Rattle.std.specs.Prelude.{◌≡◌, ◌++◌, ◌<◌, ◌^◌, OnOk, encode_utf8};
 ghost use Rattle.markup.specs.inner.Inside.{noted_all};
-ghost use Rattle.markup.specs.Drafts.{no_draft, literal_char, given_char, end_value, add, note_character, value_noted, add_value, held_all, draft_size};
+ghost use Rattle.markup.specs.inner.Drafts.{no_draft, literal_char, given_char, end_value, add, note_character, value_noted, add_value, held_all, draft_size};
 
 use crate::characters::is_blank;
 use crate::reference::{ReferenceScan, ReferenceTurn};
@@ -22,7 +22,7 @@ pub(crate) struct Draft {
 }
 
 impl Spelled {
-    ghost use Rattle.markup.specs.Drafts.{no_name, add};
+    ghost use Rattle.markup.specs.inner.Drafts.{no_name, add};
 
     /// No name yet. It takes no memory.
     fn none(alloc: Global) -> Spelled
@@ -50,7 +50,7 @@ impl Spelled {
 
 impl Spelled {
     ghost use Rattle.std.specs.Prelude.{◌<◌, ◌^◌};
-    ghost use Rattle.markup.specs.Drafts.{held_name};
+    ghost use Rattle.markup.specs.inner.Drafts.{held_name};
 
     /// How many bytes are held for the name.
     fn held(&self) -> u64

@@ -1,6 +1,6 @@
 //! The names of the open elements, in one block of bytes.
 ghost use Rattle.std.specs.Prelude.{◌≡◌, ◌==◌, ◌∷◌, ◌++◌, List, [], length, OnOk, MatchOption};
-ghost use Rattle.markup.specs.OpenNames.{OpenName, KeepsNames, IsInnermost};
+ghost use Rattle.markup.specs.inner.OpenNames.{OpenName, KeepsNames, IsInnermost};
 
 use crate::name_block::NameBlock;
 use std::alloc::{AllocError, Global};

@@ -1,18 +1,19 @@
 //! A reader of XML that takes a byte at a time, or many at once.
-ghost use Rattle.std.specs.Prelude.{◌≡◌, ◌<◌, ◌≤◌, ◌^◌, ◌+◌, ◌∷◌, ◌++◌, ℕ, List, [], IfOk, IfErr, OnOk, IsTrue, IsFalse, Some, None, Err, false, length, reverse, take};
+ghost use Rattle.std.specs.Prelude.{◌≡◌, ◌<◌, ◌≤◌, ◌^◌, ◌+◌, ◌∷◌, ◌++◌, ℕ, List, [], IfOk, IfErr, OnOk, IsTrue, IsFalse, Some, None, Err, false, length, take};
 ghost use Rattle.lexical_core.specs.declared.rule.Rule.TheVariants.{Truncated};
 ghost use Rattle.markup.specs.Token.{Token};
 ghost use Rattle.markup.specs.Marks.{in_cdata, no_limit, IsLimit};
 ghost use Rattle.markup.specs.Faults.{MarkFaultUnder as HasMarkFault};
-ghost use Rattle.markup.specs.ScanRuns.{ended_of, draft_of};
-ghost use Rattle.markup.specs.Contexts.{IsContext};
-ghost use Rattle.markup.specs.TokenRules.{ends_tag};
-ghost use Rattle.markup.specs.Tokenizers.{IsAwaited, FinishesBy, without_draft, handed_out};
+ghost use Rattle.markup.specs.inner.ScanRuns.{ended_of, draft_of};
+ghost use Rattle.markup.specs.inner.Contexts.{IsContext};
+ghost use Rattle.markup.specs.inner.TokenRules.{ends_tag};
+ghost use Rattle.markup.specs.inner.Tokenizers.{IsAwaited, FinishesBy, without_draft, handed_out};
 ghost use Rattle.markup.specs.inner.ReaderSteps.{TellsMore, SettlesEvents, TokenAnswered, return_items};
-ghost use Rattle.markup.specs.Events.{open_tags, Placed};
+ghost use Rattle.markup.specs.Events.{Placed};
+ghost use Rattle.markup.specs.PlainTags.{open_behind};
 ghost use Rattle.markup.specs.EventItems.{Tells};
 ghost use Rattle.markup.specs.Reading.{bytes_taken, reader_failure, open_token_held, token_length, HasTaken, HasTakenUnder, HasToldUnder, MayTakeInsideUnder, Keeps, GoesOnUnder, StopsUnder, IsWhollyUnder, EndsEarlyUnder, RunsOutUnder};
-ghost use Rattle.markup.specs.Inputs.{Any, Begins, is_return};
+ghost use Rattle.markup.specs.inner.Inputs.{Any, Begins, is_return};
 
 mod asides;
 mod brackets;
@@ -174,7 +175,7 @@ impl Reader {
     /// How many elements are open, whose start tags have ended and whose end tags have not. After an
     /// error it says nothing of the bytes.
     pub fn depth(&self) -> usize
-        ensures { (limit : ℕ) (bytes : List ℕ) (tokens : List Token) (told : List Placed) → Keeps limit Any self.now bytes tokens told → result ≡ length (open_tags (reverse tokens)) }
+        ensures { (limit : ℕ) (bytes : List ℕ) (told : List Placed) → HasTakenUnder limit self.now bytes told → result ≡ length (open_behind [] told) }
     {
         self.context.depth()
     }

@@ -1,6 +1,6 @@
 //! References, read a character at a time (XML 1.0 §4.1).
 ghost use Rattle.std.specs.Prelude.{◌≡◌, ◌≤◌};
-ghost use Rattle.markup.specs.ReferenceScans.{digit_step, numbered_char, entity_char_of, word_step, digits_step, reference_step};
+ghost use Rattle.markup.specs.inner.ReferenceScans.{digit_step, numbered_char, entity_char_of, word_step, digits_step, reference_step};
 
 use crate::characters::is_allowed;
 use crate::word::Word;

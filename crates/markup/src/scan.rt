@@ -1,7 +1,7 @@
 //! How far a token has come, and what one more character makes of it.
 ghost use Rattle.std.specs.Prelude.{◌≡◌};
-ghost use Rattle.markup.specs.ScanRuns.{ReadsGrammar};
-ghost use Rattle.markup.specs.Scans.{goes_if, name_step, step};
+ghost use Rattle.markup.specs.inner.ScanRuns.{ReadsGrammar};
+ghost use Rattle.markup.specs.inner.Scans.{goes_if, name_step, step};
 
 use self::declaration::{
     declaration_gap, field_after, field_before, field_end, field_gap, field_name, field_value,
@@ -187,7 +187,7 @@ pub(crate) enum NameTurn {
 }
 
 impl Position {
-    ghost use Rattle.markup.specs.Tokenizers.{behind_token};
+    ghost use Rattle.markup.specs.inner.Tokenizers.{behind_token};
 
     /// Where a token begins behind one that ended so.
     pub(crate) fn behind(self, ended: Ended) -> Position
@@ -315,7 +315,7 @@ fn reads_grammar()
 {}
 
 impl Scan {
-    ghost use Rattle.markup.specs.Tokenizers.{is_between, is_text, is_tag, is_reference_open, stuck_rule};
+    ghost use Rattle.markup.specs.inner.Tokenizers.{is_between, is_text, is_tag, is_reference_open, stuck_rule};
 
     /// Whether a token begins behind another that is not the byte order mark.
     #[inline]

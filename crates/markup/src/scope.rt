@@ -4,10 +4,10 @@ ghost use Rattle.std.specs.Str.{bytes_eq};
 ghost use Rattle.lexical_core.specs.declared.rule.Rule.TheVariants.{TagMismatch};
 ghost use Rattle.markup.specs.Events.{namespace_of, start_tag_items, expanded_in, end_items};
 ghost use Rattle.markup.specs.EventItems.{entry_of, Tells, TellsFront};
-ghost use Rattle.markup.specs.Bindings.{Binds};
+ghost use Rattle.markup.specs.inner.Bindings.{Binds};
 ghost use Rattle.markup.specs.Marks.{tag_limit, begins_with};
 ghost use Rattle.markup.specs.Faults.{end_rule};
-ghost use Rattle.markup.specs.OpenNames.{OpenName, KeepsNames};
+ghost use Rattle.markup.specs.inner.OpenNames.{OpenName, KeepsNames};
 ghost use Rattle.markup.specs.PlainTags.{joined_text, tag_text, may_be_named, IsInsideOf, tags_behind, IsTagAt, IsTagInside};
 ghost use Rattle.markup.specs.Scopes.{open_name, placed_at};
 

@@ -1,7 +1,7 @@
 //! Tokens of bytes that come one at a time.
 ghost use Rattle.std.specs.Prelude.{◌≡◌, ℕ, ◌<◌, ◌≤◌, ◌^◌, ◌+◌, ◌-◌, ◌∷◌, ◌++◌, true, Some, List, [], IfOk, IsTrue, IsFalse, length, take};
 ghost use Rattle.markup.specs.Token.{Token};
-ghost use Rattle.markup.specs.Tokenizers.{is_plain_in};
+ghost use Rattle.markup.specs.inner.Tokenizers.{is_plain_in};
 
 use crate::draft::Draft;
 use crate::scan::{Ended, Position, Scan, Turn};
@@ -79,9 +79,9 @@ impl Tokenizer {
     ghost use Rattle.markup.specs.inner.AsideTexts.{after_token};
     ghost use Rattle.markup.specs.inner.Inside.{is_inside, may_be_tag, GoesOver, GoesByOne, GoesByAll, GoesInside};
     ghost use Rattle.markup.specs.Marks.{IsLimit};
-    ghost use Rattle.markup.specs.Drafts.{draft_size};
-    ghost use Rattle.markup.specs.TokenRules.{is_cdata};
-    ghost use Rattle.markup.specs.Tokenizers.{bound_outcome, token_ended, without_draft, outcome, after_character, AdvancedBy, AdvancesBy, IsTokenOpen, at_next_token, settle_character, SettlesBy, open_at, FinishesBy, starts_plain, TakesPlain, is_ready, is_in_text, after_whole_tokens};
+    ghost use Rattle.markup.specs.inner.Drafts.{draft_size};
+    ghost use Rattle.markup.specs.inner.TokenRules.{is_cdata};
+    ghost use Rattle.markup.specs.inner.Tokenizers.{bound_outcome, token_ended, without_draft, outcome, after_character, AdvancedBy, AdvancesBy, IsTokenOpen, at_next_token, settle_character, SettlesBy, open_at, FinishesBy, starts_plain, TakesPlain, is_ready, is_in_text, after_whole_tokens};
 
     /// A reader before the first byte, of tags of at most so many bytes. It takes no memory.
     pub(crate) fn new(alloc: Global, limit: u64) -> Tokenizer

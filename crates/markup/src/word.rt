@@ -1,6 +1,6 @@
 //! The fixed words of tokens, read a letter at a time.
 ghost use Rattle.std.specs.Prelude.{◌≡◌, ◌<◌, OnSome};
-ghost use Rattle.markup.specs.Words.{word_text, letter_of};
+ghost use Rattle.markup.specs.inner.Words.{word_text, letter_of};
 
 /// A word that a token has, as the grammar spells it.
 #[derive(Clone, Copy)]

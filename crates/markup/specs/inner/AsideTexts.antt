@@ -4,9 +4,9 @@ use Rattle.std.specs.List.{list_all}
 use Rattle.markup.specs.Ascii.{is_ascii}
 use Rattle.markup.specs.Token.{Token, token_bytes}
 use Rattle.markup.specs.Asides.{is_aside_in}
-use Rattle.markup.specs.ScanRuns.{ended_of}
-use Rattle.markup.specs.Contexts.{without_brackets}
-use Rattle.markup.specs.Tokenizers.{behind_token}
+use Rattle.markup.specs.inner.ScanRuns.{ended_of}
+use Rattle.markup.specs.inner.Contexts.{without_brackets}
+use Rattle.markup.specs.inner.Tokenizers.{behind_token}
 use Rattle.markup.specs.declared.reader.Reader.{Reader}
 use Rattle.markup.specs.declared.scan.Ended.{Ended}
 use Rattle.markup.specs.declared.scan.Scan.TheVariants.{Begin}

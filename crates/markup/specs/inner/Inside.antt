@@ -2,10 +2,10 @@
 use Rattle.std.specs.Prelude.{◌≡◌, ℕ, Bool, ◌+◌, ◌-◌, ◌<◌, ◌==◌, ◌&&◌, ◌||◌, nat_le, not, true, false, List, [], ◌++◌, length, Some, encode_utf8_all}
 use Rattle.std.specs.List.{list_all}
 use Rattle.markup.specs.Ascii.{is_ascii}
-use Rattle.markup.specs.Drafts.{add_value}
-use Rattle.markup.specs.Scans.{step}
-use Rattle.markup.specs.ScanRuns.{run, At}
-use Rattle.markup.specs.Tokenizers.{is_tag, with_scan}
+use Rattle.markup.specs.inner.Drafts.{add_value}
+use Rattle.markup.specs.inner.Scans.{step}
+use Rattle.markup.specs.inner.ScanRuns.{run, At}
+use Rattle.markup.specs.inner.Tokenizers.{is_tag, with_scan}
 use Rattle.markup.specs.declared.classes.Passed.{Passed}
 use Rattle.markup.specs.declared.classes.Passed.TheVariants.{Comment, Instruction}
 use Rattle.markup.specs.declared.draft.Draft.{Draft}

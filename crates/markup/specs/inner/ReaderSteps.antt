@@ -5,16 +5,16 @@ use Rattle.markup.specs.Token.{Token}
 use Rattle.markup.specs.Events.{Placed, items_of}
 use Rattle.markup.specs.Faults.{rule_of}
 use Rattle.markup.specs.Marks.{begins_with}
-use Rattle.markup.specs.TokenRules.{is_cdata}
+use Rattle.markup.specs.inner.TokenRules.{is_cdata}
 use Rattle.markup.specs.EventItems.{Tells, TellsClean}
 use Rattle.markup.specs.Scopes.{placed_at}
-use Rattle.markup.specs.Contexts.{TakesToken, HasOpen, without_brackets}
+use Rattle.markup.specs.inner.Contexts.{TakesToken, HasOpen, without_brackets}
 use Rattle.markup.specs.declared.context.Context.{Context}
 use Rattle.markup.specs.declared.reader.MarkError.{MarkError}
 use Rattle.markup.specs.declared.reader.MarkError.TheVariants.{Refused, Memory}
 use Rattle.markup.specs.declared.tokenizer.Finish.{Finish}
-use Rattle.markup.specs.Tokenizers.{IsAwaited, is_ready, after_whole_tokens}
-use Rattle.markup.specs.Inputs.{Begins, is_return}
+use Rattle.markup.specs.inner.Tokenizers.{IsAwaited, is_ready, after_whole_tokens}
+use Rattle.markup.specs.inner.Inputs.{Begins, is_return}
 use Rattle.markup.specs.Reading.{Keeps}
 use Rattle.markup.specs.declared.event.Event.{Event}
 use Rattle.markup.specs.declared.reader.Reader.{Reader}

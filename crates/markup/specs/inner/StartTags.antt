@@ -4,7 +4,7 @@ use Rattle.lexical_core.specs.declared.rule.Rule.{Rule}
 use Rattle.markup.specs.Token.{Token, StartTag, Start}
 use Rattle.markup.specs.Events.{namespace_of, entries, start_tag_items, items_of, open_tags}
 use Rattle.markup.specs.Faults.{start_rule, rule_of}
-use Rattle.markup.specs.Contexts.{IsContext}
+use Rattle.markup.specs.inner.Contexts.{IsContext}
 use Rattle.markup.specs.PlainTags.{IsInsideOf}
 use Rattle.markup.specs.Scopes.{declarations, IsScope}
 use Rattle.markup.specs.TagAttributes.{tag_entry}

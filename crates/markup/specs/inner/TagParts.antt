@@ -16,9 +16,9 @@ use Rattle.markup.specs.declared.attributes.Expanded.{Expanded as ExpandedAttrib
 use Rattle.markup.specs.Events.{declared_prefix, namespace_of, attribute_name, put, entries}
 use Rattle.markup.specs.Faults.{same_declared, is_bad_declaration, has_clash, is_bad_attribute}
 use Rattle.markup.specs.TagAttributes.{tag_entry}
-use Rattle.markup.specs.Bindings.{Binds}
+use Rattle.markup.specs.inner.Bindings.{Binds}
 use Rattle.markup.specs.inner.Origins.{namespace_from}
-use Rattle.markup.specs.OpenNames.{KeepsNames}
+use Rattle.markup.specs.inner.OpenNames.{KeepsNames}
 use Rattle.markup.specs.Scopes.{declarations, all_declarations, open_name}
 
 -- It declares no namespace.

@@ -6,7 +6,7 @@ ghost use Rattle.markup.specs.Events.{Placed};
 ghost use Rattle.markup.specs.Reading.{bytes_taken, reader_failure, HasTakenUnder, HasToldUnder};
 ghost use Rattle.markup.specs.Scopes.{placed_at};
 ghost use Rattle.markup.specs.Token.{Token, token_bytes};
-ghost use Rattle.markup.specs.TokenRules.{is_cdata};
+ghost use Rattle.markup.specs.inner.TokenRules.{is_cdata};
 ghost use Rattle.markup.specs.inner.AsideTexts.{IsAsideAt};
 ghost use Rattle.markup.specs.inner.ReaderSteps.{IsReaderReady};
 

@@ -2,11 +2,11 @@
 ghost use Rattle.std.specs.Prelude.{◌≡◌, ◌<◌, ◌≤◌, ◌^◌, ◌+◌, ◌++◌, ℕ, List, true, Some, None, length, take};
 ghost use Rattle.std.specs.List.{list_all};
 ghost use Rattle.markup.specs.Chars.{is_space};
-ghost use Rattle.markup.specs.Contexts.{HasOpen};
+ghost use Rattle.markup.specs.inner.Contexts.{HasOpen};
 ghost use Rattle.markup.specs.Events.{Placed};
 ghost use Rattle.markup.specs.Literals.{IsRun, IsBracketRun, characters_from};
 ghost use Rattle.markup.specs.Reading.{bytes_taken, reader_failure, HasTakenUnder, HasToldUnder};
-ghost use Rattle.markup.specs.Tokenizers.{is_in_text};
+ghost use Rattle.markup.specs.inner.Tokenizers.{is_in_text};
 ghost use Rattle.markup.specs.inner.ClosedBrackets.{IsClosedRun};
 ghost use Rattle.markup.specs.inner.ReaderSteps.{IsReaderReady};
 

@@ -5,7 +5,7 @@ ghost use Rattle.markup.specs.Events.{Placed};
 ghost use Rattle.markup.specs.Reading.{bytes_taken, reader_failure, HasTakenUnder, HasToldUnder};
 ghost use Rattle.markup.specs.References.{MayReferUnder};
 ghost use Rattle.markup.specs.Scopes.{placed_at};
-ghost use Rattle.markup.specs.Tokenizers.{is_in_text};
+ghost use Rattle.markup.specs.inner.Tokenizers.{is_in_text};
 
 use super::{MarkError, Reader};
 

@@ -1,13 +1,13 @@
 //! A whole reference that a reader takes at once.
 ghost use Rattle.std.specs.Prelude.{◌≡◌, ◌<◌, ◌≤◌, ◌^◌, ◌+◌, ◌∷◌, ◌++◌, ℕ, List, [], IfSome, IsSome, true, Some, None, length, take, encode_utf8_all};
 ghost use Rattle.lexical_core.specs.Tree.{Char};
-ghost use Rattle.markup.specs.Contexts.{HasOpen};
+ghost use Rattle.markup.specs.inner.Contexts.{HasOpen};
 ghost use Rattle.markup.specs.Events.{Placed};
 ghost use Rattle.markup.specs.Reading.{bytes_taken, reader_failure, HasTakenUnder, HasToldUnder};
 ghost use Rattle.markup.specs.Reference.{Reference, is_reference, reference_text};
 ghost use Rattle.markup.specs.References.{IsReferenceAt, MayReferUnder};
 ghost use Rattle.markup.specs.Scopes.{placed_at};
-ghost use Rattle.markup.specs.Tokenizers.{is_in_text};
+ghost use Rattle.markup.specs.inner.Tokenizers.{is_in_text};
 
 use super::{MarkError, Reader};
 use crate::references::{CharacterReference, begins_reference, reference_at};

@@ -6,7 +6,7 @@ ghost use Rattle.markup.specs.PlainStarts.{PlainStart, plain_start_text};
 ghost use Rattle.markup.specs.TagAttributes.{tag_entry};
 ghost use Rattle.markup.specs.Scopes.{placed_at};
 ghost use Rattle.markup.specs.Reading.{bytes_taken, reader_failure, HasTakenUnder, HasToldUnder, MayTakeStartUnder, StopsUnder};
-ghost use Rattle.markup.specs.Tokenizers.{is_in_text};
+ghost use Rattle.markup.specs.inner.Tokenizers.{is_in_text};
 ghost use Rattle.markup.specs.inner.TagParts.{spelled_opening};
 ghost use Rattle.markup.specs.inner.WholeStarts.{IsStartAt};
 

@@ -5,7 +5,7 @@ ghost use Rattle.markup.specs.declared.tag.Opening.{Opening};
 ghost use Rattle.markup.specs.declared.plain_tag.TagKind.{TagKind};
 ghost use Rattle.markup.specs.PlainTags.{joined_text, tag_text, tag_items, name_behind, IsTagAt, IsTagInside};
 ghost use Rattle.markup.specs.Scopes.{IsScope, placed_at};
-ghost use Rattle.markup.specs.Tokenizers.{is_in_text};
+ghost use Rattle.markup.specs.inner.Tokenizers.{is_in_text};
 ghost use Rattle.markup.specs.Reading.{bytes_taken, reader_failure, HasTakenUnder, HasToldUnder, MayTakeTagUnder};
 
 use super::{MarkError, Reader};

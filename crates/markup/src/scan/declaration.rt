@@ -1,6 +1,6 @@
 //! The XML declaration (XML 1.0 §2.8).
 ghost use Rattle.std.specs.Prelude.{◌≡◌};
-ghost use Rattle.markup.specs.Scans.{declaration_gap_step, field_name_step, field_before_step, field_after_step, field_value_step, field_word_step, field_end_step, field_gap_step, fits_letter, name_word};
+ghost use Rattle.markup.specs.inner.Scans.{declaration_gap_step, field_name_step, field_before_step, field_after_step, field_value_step, field_word_step, field_end_step, field_gap_step, fits_letter, name_word};
 
 use crate::characters::is_blank;
 use crate::scan::{Field, Scan, Turn, goes_if};

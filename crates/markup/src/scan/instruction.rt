@@ -1,6 +1,6 @@
 //! Comments, instructions and the words of CDATA sections and type declarations (XML 1.0 §2.5, §2.6, §2.7, §2.8).
 ghost use Rattle.std.specs.Prelude.{◌≡◌};
-ghost use Rattle.markup.specs.Scans.{bang_step, comment_step, fixed_step, question_step, target_x_step, target_xm_step, target_xml_step, target_step, instruction_step, mark_step};
+ghost use Rattle.markup.specs.inner.Scans.{bang_step, comment_step, fixed_step, question_step, target_x_step, target_xm_step, target_xml_step, target_step, instruction_step, mark_step};
 
 use crate::characters::{begins_name, continues_name, is_allowed, is_blank};
 use crate::scan::{Ended, Scan, Turn, goes_if};

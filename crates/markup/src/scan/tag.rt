@@ -1,6 +1,6 @@
 //! Start tags and end tags (XML 1.0 §3.1).
 ghost use Rattle.std.specs.Prelude.{◌≡◌};
-ghost use Rattle.markup.specs.Scans.{value_reference_turn, start_name_step, behind_attribute_step, close_step, gap_step, attribute_name_step, before_equals_step, after_equals_step, value_step, end_name_step, end_gap_step};
+ghost use Rattle.markup.specs.inner.Scans.{value_reference_turn, start_name_step, behind_attribute_step, close_step, gap_step, attribute_name_step, before_equals_step, after_equals_step, value_step, end_name_step, end_gap_step};
 
 use crate::characters::{begins_name, is_allowed, is_blank};
 use crate::reference::{ReferenceScan, ReferenceTurn};

@@ -1,6 +1,6 @@
 //! Tokens of text and of CDATA sections, and how markup begins (XML 1.0 §2.4, §2.7, §3.1).
 ghost use Rattle.std.specs.Prelude.{◌≡◌};
-ghost use Rattle.markup.specs.Scans.{begin_step, text_step, line_step, cdata_step, reference_turn, opened_step};
+ghost use Rattle.markup.specs.inner.Scans.{begin_step, text_step, line_step, cdata_step, reference_turn, opened_step};
 
 use crate::characters::{begins_name, is_allowed};
 use crate::reference::{ReferenceScan, ReferenceTurn};

@@ -1,6 +1,6 @@
 -- What is counted so far, and what is held by the rest, is held by all.
 use Rattle.std.proofs.Common.{◌≡◌, ◌+◌, ◌<◌, ◌^◌, length}
-use Rattle.markup.specs.Drafts.{held_all}
+use Rattle.markup.specs.inner.Drafts.{held_all}
 use Rattle.markup.proofs.draft.held_all.Given as goal
 
 abbrev pub invariant-loop-first : goal.invariant-loop-first

@@ -1,7 +1,7 @@
 -- The attributes from the place on are looked at.
 use Rattle.std.proofs.Common.{◌≡◌, ◌≤◌, ◌+◌, List, length, map, drop}
 use Rattle.std.specs.List.{list_any}
-use Rattle.markup.specs.Bindings.{Binds}
+use Rattle.markup.specs.inner.Bindings.{Binds}
 use Rattle.markup.specs.Scopes.{declarations}
 use Rattle.markup.specs.declared.tag.Given.{Given}
 use Rattle.markup.specs.inner.TagParts.{tag_given, declares_badly, AreDeclared}

@@ -2,7 +2,7 @@
 use Rattle.std.proofs.Common.{◌≡◌, ℕ, List, Some, sym, ap, ◌∙◌}
 use Rattle.std.specs.Bool.{if◌then◌else◌}
 use Rattle.std.specs.Str.{bytes_eq}
-use Rattle.markup.specs.Bindings.{place_in}
+use Rattle.markup.specs.inner.Bindings.{place_in}
 use Rattle.markup.proofs.BindingLemmas.{binds_more, places_updated}
 use Rattle.markup.proofs.bindings.Bindings.declare.Goals as goal
 

@@ -1,6 +1,6 @@
 -- One more declaration is closed.
 use Rattle.std.proofs.Common.{drop, subst}
-use Rattle.markup.specs.Bindings.{Binds}
+use Rattle.markup.specs.inner.Bindings.{Binds}
 use Rattle.markup.proofs.BindingLemmas.{drop_more}
 use Rattle.markup.proofs.bindings.Bindings.forget.Goals as goal
 

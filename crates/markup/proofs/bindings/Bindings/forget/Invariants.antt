@@ -1,7 +1,7 @@
 -- As many declarations are closed as the loop has counted.
 use Rattle.std.proofs.Common.{List, drop}
 use Rattle.markup.specs.declared.tag.Given.{Given}
-use Rattle.markup.specs.Bindings.{Binds}
+use Rattle.markup.specs.inner.Bindings.{Binds}
 use Rattle.markup.proofs.bindings.Bindings.forget.Given as goal
 
 abbrev pub invariant-loop-closed : goal.invariant-loop-closed

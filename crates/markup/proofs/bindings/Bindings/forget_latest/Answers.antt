@@ -3,7 +3,7 @@ use Rattle.std.proofs.Common.{ℕ, List, Option, None, Some, refl, sym, ap, subs
 use Rattle.std.specs.Bool.{if◌then◌else◌}
 use Rattle.std.specs.Option.{IsSome}
 use Rattle.std.specs.Str.{bytes_eq}
-use Rattle.markup.specs.Bindings.{place_in}
+use Rattle.markup.specs.inner.Bindings.{place_in}
 use Rattle.markup.proofs.BindingLemmas.{binds_less, binds_none, places_updated}
 use Rattle.markup.proofs.bindings.Bindings.forget_latest.Goals as goal
 

@@ -1,9 +1,9 @@
 use Rattle.std.proofs.Common.{◌∷◌, ◌++◌, [], reverse, refl, sym, ◌∙◌, subst}
 use Rattle.markup.specs.EventItems.{Tells}
-use Rattle.markup.specs.Inputs.{Any}
+use Rattle.markup.specs.inner.Inputs.{Any}
 use Rattle.markup.specs.Reading.{StopsUnder, RefusesUnder}
 use Rattle.markup.specs.inner.ReaderSteps.{return_items, TellsMore, TokenAnswered}
-use Rattle.markup.specs.Tokenizers.{AdvancesBy, outcome, without_draft}
+use Rattle.markup.specs.inner.Tokenizers.{AdvancesBy, outcome, without_draft}
 use Rattle.markup.proofs.ResultLemmas.{on_ok_if, if_err_if, match_ok, match_err}
 use Rattle.markup.proofs.ReaderLemmas.{advance_more, advance_refused, advance_out, answered, token_here, token_stopped, return_ok, return_draft, kept, handed}
 use Rattle.markup.proofs.reader.Reader.advance.Goals as goal

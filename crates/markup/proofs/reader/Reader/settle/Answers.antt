@@ -1,5 +1,5 @@
 use Rattle.std.proofs.Common.{◌<◌, ◌^◌, sym, subst}
-use Rattle.markup.specs.Inputs.{settled_events}
+use Rattle.markup.specs.inner.Inputs.{settled_events}
 use Rattle.markup.specs.EventItems.{Tells, TellsFront}
 use Rattle.markup.proofs.ResultLemmas.{on_ok_both, on_err_if}
 use Rattle.markup.proofs.ReaderLemmas.{start_below, settle_ok, settle_err}

@@ -1,7 +1,7 @@
 use Rattle.std.proofs.Common.{refl, sym, ◌∙◌, subst}
 use Rattle.markup.specs.inner.ReaderSteps.{TokenAnswered}
 use Rattle.markup.specs.Reading.{HasTakenUnder}
-use Rattle.markup.specs.Tokenizers.{TakesPlain}
+use Rattle.markup.specs.inner.Tokenizers.{TakesPlain}
 use Rattle.markup.proofs.PlainLemmas.{alone_ok, alone_err}
 use Rattle.markup.proofs.reader.Reader.step.Goals as goal
 

@@ -2,7 +2,7 @@
 use Rattle.std.proofs.Common.{◌≡◌, true, [], Err, length, reverse, refl, sym, ap, subst, ◌∙◌}
 use Rattle.std.specs.Option.{IsSome}
 use Rattle.markup.specs.PlainStarts.{plain_start_text}
-use Rattle.markup.specs.Tokenizers.{is_in_text}
+use Rattle.markup.specs.inner.Tokenizers.{is_in_text}
 use Rattle.markup.specs.inner.StartTags.{StartTaken}
 use Rattle.markup.specs.inner.TagParts.{spelled_opening}
 use Rattle.markup.specs.inner.WholeStarts.{IsStartAt}

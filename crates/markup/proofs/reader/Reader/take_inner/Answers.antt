@@ -1,5 +1,5 @@
 use Rattle.std.proofs.Common.{refl, subst, ap, ◌∙◌, Err}
-use Rattle.markup.specs.Contexts.{TokenTaken}
+use Rattle.markup.specs.inner.Contexts.{TokenTaken}
 use Rattle.markup.proofs.reader.Reader.take_inner.Goals as goal
 
 pub returns-in-Err-Rule-clause-token : goal.returns-in-Err-Rule-clause-token

@@ -1,6 +1,6 @@
 -- A tag that declares nothing leaves the declarations as they are.
 use Rattle.std.proofs.Common.{◌≡◌, arith, subst, drop}
-use Rattle.markup.specs.Bindings.{Binds}
+use Rattle.markup.specs.inner.Bindings.{Binds}
 use Rattle.markup.proofs.ScopeLemmas.{closes_innermost}
 use Rattle.markup.proofs.scope.Scope.forget_innermost.Goals as goal
 

@@ -1,12 +1,12 @@
--- Runs of the scan over characters, and what they say of tokens. Private functions alone cite this.
+-- Runs of the scan over characters, and what they say of tokens.
 use Rattle.std.specs.Prelude.{◌≡◌, ℕ, Bool, ◌==◌, ◌&&◌, not, true, false, List, [], ◌∷◌, ◌++◌, map, if◌then◌else◌}
 use Rattle.markup.specs.Reference.{referred_character}
 use Rattle.markup.specs.Token.{Token, Mark, Declaration, Comment, Instruction, Opener, Closer, TypeDeclaration, Start, End, Refer, LineEnd, Character, Cr, token_text}
 use Rattle.markup.specs.Marks.{in_cdata, is_first, stands}
 use Rattle.markup.specs.Events.{spelled_name, given_attribute}
 use Rattle.markup.specs.Faults.{TokenGoesOn}
-use Rattle.markup.specs.Drafts.{no_name, no_draft, note_character}
-use Rattle.markup.specs.Scans.{step}
+use Rattle.markup.specs.inner.Drafts.{no_name, no_draft, note_character}
+use Rattle.markup.specs.inner.Scans.{step}
 use Rattle.markup.specs.declared.draft.Draft.{Draft}
 use Rattle.markup.specs.declared.scan.Position.{Position}
 use Rattle.markup.specs.declared.scan.Position.TheVariants.{Start as AtStart, AfterMark, Text, Cdata}

@@ -1,9 +1,9 @@
--- What one more character makes of a token that is begun. Private functions alone cite this; what a token is stands in Token and Marks.
+-- What one more character makes of a token that is begun. What a token is stands in Token and Marks.
 use Rattle.std.specs.Prelude.{ℕ, Bool, ◌==◌, ◌||◌, ◌&&◌, ◌+◌, not, true, false, Option, Some, None, if◌then◌else◌, is_none}
 use Rattle.std.specs.Char.{to_ascii_lowercase}
 use Rattle.markup.specs.Chars.{is_xml_char, is_name_start, is_name_char, is_space}
-use Rattle.markup.specs.Words.{letter_of}
-use Rattle.markup.specs.ReferenceScans.{reference_step}
+use Rattle.markup.specs.inner.Words.{letter_of}
+use Rattle.markup.specs.inner.ReferenceScans.{reference_step}
 use Rattle.markup.specs.declared.word.Word.{Word}
 use Rattle.markup.specs.declared.word.Word.TheVariants.{Cdata as CdataWord, Doctype as DoctypeWord, Version as VersionWord, Encoding as EncodingWord, Standalone as StandaloneWord, One, Utf8, Yes, No}
 use Rattle.markup.specs.declared.reference.ReferenceScan.{ReferenceScan}

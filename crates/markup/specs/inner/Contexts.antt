@@ -1,11 +1,11 @@
--- What stands before a token, and what the token makes of it. Private functions alone cite this.
+-- What stands before a token, and what the token makes of it.
 use Rattle.std.specs.Prelude.{◌≡◌, ℕ, ◌==◌, ◌&&◌, false, List, ◌∷◌, length, Some, None, Result, MatchResult, if◌then◌else◌}
 use Rattle.markup.specs.Token.{Token}
 use Rattle.markup.specs.Events.{open_tags, items_of}
 use Rattle.markup.specs.Faults.{has_start, rule_of}
 use Rattle.markup.specs.EventItems.{Tells, TellsClean}
 use Rattle.markup.specs.Scopes.{IsScope, placed_at}
-use Rattle.markup.specs.TokenRules.{brackets}
+use Rattle.markup.specs.inner.TokenRules.{brackets}
 use Rattle.markup.specs.declared.context.Context.{Context}
 use Rattle.markup.specs.declared.tag.Opening.{Opening}
 use Rattle.markup.specs.declared.event.Event.{Event}

@@ -1,4 +1,4 @@
--- What a token breaks, tells and changes, by what the scan says of it. Private functions alone cite this.
+-- What a token breaks, tells and changes, by what the scan says of it.
 use Rattle.std.specs.Prelude.{ℕ, Bool, ◌==◌, ◌&&◌, not, true, false, List, [], ◌∷◌, length, drop, Option, Some, None, if◌then◌else◌}
 use Rattle.lexical_core.specs.declared.rule.Rule.{Rule}
 use Rattle.lexical_core.specs.declared.rule.Rule.TheVariants.{BadMarkup, Doctype, TextOutside}

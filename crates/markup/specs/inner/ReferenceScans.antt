@@ -2,7 +2,7 @@
 use Rattle.std.specs.Prelude.{ℕ, ◌==◌, ◌&&◌, ◌+◌, ◌*◌, nat_le, Option, Some, None, if◌then◌else◌}
 use Rattle.std.specs.Char.{is_digit, digit_value}
 use Rattle.markup.specs.Chars.{is_xml_char}
-use Rattle.markup.specs.Words.{letter_of}
+use Rattle.markup.specs.inner.Words.{letter_of}
 use Rattle.markup.specs.declared.word.Word.{Word}
 use Rattle.markup.specs.declared.word.Word.TheVariants.{Ampersand, Less, Greater, Apostrophe, Quote}
 use Rattle.markup.specs.declared.reference.ReferenceScan.{ReferenceScan}

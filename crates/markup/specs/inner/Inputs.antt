@@ -1,4 +1,4 @@
--- What the reader of tokens has read of a whole input. Private functions alone cite this.
+-- What the reader of tokens has read of a whole input.
 use Rattle.std.specs.Prelude.{◌≡◌, ℕ, ◌+◌, Bool, true, false, List, [], ◌∷◌, ◌++◌, length, reverse, Some, None, if◌then◌else◌}
 use Rattle.std.specs.List.{flat_map}
 use Rattle.lexical_core.specs.declared.rule.Rule.{Rule}
@@ -8,9 +8,9 @@ use Rattle.markup.specs.Marks.{Front}
 use Rattle.markup.specs.Faults.{rule_of, IsClean, MarkFaultUnder}
 use Rattle.markup.specs.Events.{Placed, open_tags, events}
 use Rattle.markup.specs.Scopes.{placed_at}
-use Rattle.markup.specs.ScanRuns.{ended_of, draft_of}
-use Rattle.markup.specs.Tokenizers.{Outcome, More, EndedToken, Refused, IsTokenOpen, IsAwaited, FinishesBy}
-use Rattle.markup.specs.TokenRules.{items_by}
+use Rattle.markup.specs.inner.ScanRuns.{ended_of, draft_of}
+use Rattle.markup.specs.inner.Tokenizers.{Outcome, More, EndedToken, Refused, IsTokenOpen, IsAwaited, FinishesBy}
+use Rattle.markup.specs.inner.TokenRules.{items_by}
 use Rattle.markup.specs.declared.draft.Draft.{Draft}
 use Rattle.markup.specs.declared.scan.Ended.{Ended}
 use Rattle.markup.specs.declared.tokenizer.Settled.{Settled}

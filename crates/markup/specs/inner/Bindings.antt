@@ -1,4 +1,4 @@
--- What is kept of the declarations of the open tags. Private functions alone cite this.
+-- What is kept of the declarations of the open tags.
 use Rattle.std.specs.Prelude.{◌≡◌, ℕ, Bool, List, [], ◌∷◌, length, reverse, Option, Some, None, if◌then◌else◌, unwrap_or}
 use Rattle.std.specs.Global.{Vec}
 use Rattle.std.specs.BTreeMap.{BTreeMap, get_by}

@@ -1,4 +1,4 @@
--- What is kept of the names of the open elements. Private functions alone cite this.
+-- What is kept of the names of the open elements.
 use Rattle.std.specs.Prelude.{◌≡◌, ℕ, List, [], ◌∷◌, ◌++◌, length, map, reverse}
 use Rattle.markup.specs.declared.tag.Spelled.{Spelled}
 use Rattle.markup.specs.declared.open_names.NameSize.{NameSize}

@@ -1,7 +1,7 @@
--- What an open tag has said so far. Private functions alone cite this.
+-- What an open tag has said so far.
 use Rattle.std.specs.Prelude.{ℕ, Bool, ◌==◌, ◌&&◌, ◌+◌, List, [], ◌∷◌, ◌++◌, length, if◌then◌else◌, encode_utf8}
 use Rattle.markup.specs.Chars.{is_space}
-use Rattle.markup.specs.ReferenceScans.{reference_step}
+use Rattle.markup.specs.inner.ReferenceScans.{reference_step}
 use Rattle.markup.specs.declared.tag.Given.{Given}
 use Rattle.markup.specs.declared.tag.Spelled.{Spelled}
 use Rattle.markup.specs.declared.draft.Draft.{Draft}

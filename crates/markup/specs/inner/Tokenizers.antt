@@ -1,4 +1,4 @@
--- What the reader of tokens keeps and gives. Private functions alone cite this.
+-- What the reader of tokens keeps and gives.
 use Rattle.std.specs.Prelude.{◌≡◌, ℕ, Bool, ◌==◌, ◌&&◌, ◌||◌, ◌+◌, ◌-◌, ◌<◌, nat_le, not, true, false, List, [], ◌∷◌, ◌++◌, length, Option, Some, if◌then◌else◌, encode_utf8_all}
 use Rattle.lexical_core.specs.Utf8.{Steps, IsFront}
 use Rattle.lexical_core.specs.declared.utf8.Utf8.{Utf8}
@@ -9,10 +9,10 @@ use Rattle.markup.specs.Chars.{is_xml_char}
 use Rattle.markup.specs.Token.{Token, LineEnd, Character, Cr, token_bytes}
 use Rattle.markup.specs.Marks.{stands, is_short, IsLimit}
 use Rattle.markup.specs.Faults.{IsTagBegun, Next}
-use Rattle.markup.specs.Drafts.{no_draft, note_character}
-use Rattle.markup.specs.Scans.{step}
-use Rattle.markup.specs.TokenRules.{ends_tag}
-use Rattle.markup.specs.ScanRuns.{run, At, position, ended_of, draft_of}
+use Rattle.markup.specs.inner.Drafts.{no_draft, note_character}
+use Rattle.markup.specs.inner.Scans.{step}
+use Rattle.markup.specs.inner.TokenRules.{ends_tag}
+use Rattle.markup.specs.inner.ScanRuns.{run, At, position, ended_of, draft_of}
 use Rattle.markup.specs.declared.draft.Draft.{Draft}
 use Rattle.markup.specs.declared.scan.Position.{Position}
 use Rattle.markup.specs.declared.scan.Position.TheVariants.{AfterMark, Text, Cdata}
