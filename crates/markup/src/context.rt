@@ -5,7 +5,7 @@ ghost use Rattle.lexical_core.specs.Tree.{Char};
 ghost use Rattle.markup.specs.Token.{Token, StartTag, Start, End, LineEnd, Line};
 ghost use Rattle.markup.specs.Events.{opening, open_tags, spelled_name};
 ghost use Rattle.markup.specs.EventItems.{Tells, TellsFront, item_of};
-ghost use Rattle.markup.specs.inner.TokenRules.{inner_rule, inside_alone, inner_items, brackets_by, one_more, ends_tag};
+ghost use Rattle.markup.specs.inner.TokenRules.{inner_rule, inside_alone, brackets_by, one_more, ends_tag};
 ghost use Rattle.markup.specs.inner.Contexts.{IsContext, TokenTaken, HasOpen, without_brackets, with_brackets};
 ghost use Rattle.markup.specs.inner.TagParts.{spelled_opening};
 ghost use Rattle.markup.specs.inner.StartTags.{StartTaken};
@@ -37,29 +37,6 @@ pub(crate) struct Context {
     has_root: bool,
     /// How many literal `]` stand last, 2 at most.
     brackets: u8,
-}
-
-impl Ended {
-    /// Whether a start tag or an end tag has ended.
-    #[inline]
-    pub(crate) fn is_tag(self) -> bool
-        ensures { result ≡ ends_tag self }
-    {
-        matches!(self, Ended::Start(_) | Ended::End)
-    }
-
-    /// The event of a token that is no tag.
-    #[inline]
-    fn what(self) -> What
-        ensures { inner_items self ≡ item_of result ∷ [] }
-    {
-        match self {
-            Ended::Refer(c) => What::Char(c),
-            Ended::LineEnd => What::Char('\n'),
-            Ended::Character(c) => What::Char(c),
-            _ => What::Skipped,
-        }
-    }
 }
 
 /// Appends an event.

@@ -1,12 +1,12 @@
 //! What an open tag has said so far.
-ghost use Rattle.std.specs.Prelude.{◌≡◌, ◌++◌, ◌<◌, ◌^◌, OnOk, encode_utf8};
+ghost use Rattle.std.specs.Prelude.{◌≡◌, ◌<◌, ◌^◌, OnOk};
 ghost use Rattle.markup.specs.inner.Inside.{noted_all};
-ghost use Rattle.markup.specs.inner.Drafts.{no_draft, literal_char, given_char, end_value, add, note_character, value_noted, add_value, held_all, draft_size};
+ghost use Rattle.markup.specs.inner.Drafts.{no_draft, literal_char, given_char, end_value, note_character, value_noted, add_value, held_all, draft_size};
 
 use crate::characters::is_blank;
 use crate::reference::{ReferenceScan, ReferenceTurn};
-use crate::scan::{NameScan, Scan};
-use crate::tag::{Given, Spelled};
+use crate::scan::Scan;
+use crate::tag::{Given, Spelled, push};
 use lexical_core::{Items, Text};
 use std::alloc::{AllocError, Global};
 use std::mem;
@@ -19,46 +19,6 @@ pub(crate) struct Draft {
     pub(crate) given: Items<Given>,
     pub(crate) attribute: Spelled,
     pub(crate) value: Text,
-}
-
-impl Spelled {
-    ghost use Rattle.markup.specs.inner.Drafts.{no_name, add};
-
-    /// No name yet. It takes no memory.
-    fn none(alloc: Global) -> Spelled
-        ensures { result ≡ no_name }
-    {
-        Spelled {
-            prefix: Text::new(alloc),
-            local: Text::new(alloc),
-        }
-    }
-
-    /// One more character of the name; at the colon what came before it is the prefix.
-    fn add(&mut self, part: NameScan, c: char, alloc: Global) -> Result<(), AllocError>
-        ensures { OnOk result (self.new ≡ add part c self.old) }
-    {
-        match part {
-            NameScan::Colon => {
-                self.prefix = mem::replace(&mut self.local, Text::new(alloc));
-                Ok(())
-            }
-            _ => push(&mut self.local, c),
-        }
-    }
-}
-
-impl Spelled {
-    ghost use Rattle.std.specs.Prelude.{◌<◌, ◌^◌};
-    ghost use Rattle.markup.specs.inner.Drafts.{held_name};
-
-    /// How many bytes are held for the name.
-    fn held(&self) -> u64
-        ensures { held_name self.now < 2 ^ 64 → result ≡ held_name self.now }
-    {
-        let prefix = self.prefix.bytes().len() as u64;
-        prefix.saturating_add(self.local.bytes().len() as u64)
-    }
 }
 
 /// How many bytes are held for the attributes.
@@ -74,14 +34,6 @@ fn held_all(given: &[Given]) -> u64
         rest = behind;
     }
     count
-}
-
-/// Appends the character's bytes.
-pub(crate) fn push(text: &mut Text, c: char) -> Result<(), AllocError>
-    ensures { OnOk result (text.new ≡ text.old ++ encode_utf8 c) }
-{
-    let mut buffer = [0; 4];
-    text.extend(c.encode_utf8(&mut buffer).as_bytes())
 }
 
 impl Draft {

@@ -34,7 +34,7 @@ pub(crate) fn comment_length(piece: &[u8]) -> usize
 
 /// How many bytes at the front of the piece do not begin the end of an instruction.
 #[inline]
-fn instruction_length(piece: &[u8]) -> usize
+pub(crate) fn instruction_length(piece: &[u8]) -> usize
     ensures within { result ≤ length piece.now }
     ensures count { result ≡ prefix_len (is_passed 63) piece.now }
 {
@@ -43,7 +43,7 @@ fn instruction_length(piece: &[u8]) -> usize
 
 /// How many bytes at the front of the piece a part of a name goes on with.
 #[inline]
-fn part_length(part: NameScan, piece: &[u8]) -> usize
+pub(crate) fn part_length(part: NameScan, piece: &[u8]) -> usize
     ensures within { result ≤ length piece.now }
     ensures name { IsStill (Scan.StartName part) (take result piece.now) }
     ensures attribute { IsStill (Scan.AttributeName part) (take result piece.now) }
@@ -52,51 +52,5 @@ fn part_length(part: NameScan, piece: &[u8]) -> usize
     match part {
         NameScan::Colon => 0,
         _ => name_length(piece),
-    }
-}
-
-impl Scan {
-    ghost use Rattle.markup.specs.inner.Inside.{is_inside, may_be_tag};
-
-    /// Whether a token is open of which the next byte settles nothing.
-    #[inline]
-    pub(crate) fn is_inside(self) -> bool
-        ensures { result ≡ is_inside self }
-    {
-        !matches!(
-            self,
-            Scan::Begin(_) | Scan::AfterReturn | Scan::Bracket | Scan::Brackets
-        )
-    }
-
-    /// Whether the open token is a tag, or may become one.
-    #[inline]
-    pub(crate) fn may_be_tag(self) -> bool
-        ensures { result ≡ may_be_tag self }
-    {
-        matches!(self, Scan::Opened(_)) || self.is_tag()
-    }
-
-    /// How many bytes at the front of the piece leave the scan as it is.
-    #[inline]
-    pub(crate) fn still_length(self, piece: &[u8]) -> usize
-        ensures within { result ≤ length piece.now }
-        ensures still { IsStill self (take result piece.now) }
-    {
-        match self {
-            Scan::Value(quote, after_return) => {
-                if after_return {
-                    0
-                } else {
-                    value_length(quote, piece)
-                }
-            }
-            Scan::StartName(part) => part_length(part, piece),
-            Scan::AttributeName(part) => part_length(part, piece),
-            Scan::EndName(part) => part_length(part, piece),
-            Scan::CommentText => comment_length(piece),
-            Scan::InstructionText => instruction_length(piece),
-            _ => 0,
-        }
     }
 }

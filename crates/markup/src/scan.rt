@@ -17,6 +17,8 @@ use self::tag::{
 };
 use self::text::{begin, in_reference, opened};
 use crate::characters::{begins_name, continues_name, is_allowed};
+use crate::event::What;
+use crate::inside::{comment_length, instruction_length, part_length, value_length};
 use crate::reference::ReferenceScan;
 use crate::word::Word;
 use lexical_core::Rule;
@@ -186,6 +188,33 @@ pub(crate) enum NameTurn {
     Fails,
 }
 
+impl Ended {
+    ghost use Rattle.std.specs.Prelude.{◌∷◌, []};
+    ghost use Rattle.markup.specs.EventItems.{item_of};
+    ghost use Rattle.markup.specs.inner.TokenRules.{inner_items, ends_tag};
+
+    /// Whether a start tag or an end tag has ended.
+    #[inline]
+    pub(crate) fn is_tag(self) -> bool
+        ensures { result ≡ ends_tag self }
+    {
+        matches!(self, Ended::Start(_) | Ended::End)
+    }
+
+    /// The event of a token that is no tag.
+    #[inline]
+    pub(crate) fn what(self) -> What
+        ensures { inner_items self ≡ item_of result ∷ [] }
+    {
+        match self {
+            Ended::Refer(c) => What::Char(c),
+            Ended::LineEnd => What::Char('\n'),
+            Ended::Character(c) => What::Char(c),
+            _ => What::Skipped,
+        }
+    }
+}
+
 impl Position {
     ghost use Rattle.markup.specs.inner.Tokenizers.{behind_token};
 
@@ -239,6 +268,10 @@ impl NameScan {
 }
 
 impl Scan {
+    ghost use Rattle.std.specs.Prelude.{◌≤◌, length, take};
+    ghost use Rattle.markup.specs.inner.Inside.{is_inside, may_be_tag, IsStill};
+    ghost use Rattle.markup.specs.inner.Tokenizers.{is_between, is_text, is_tag, is_reference_open, stuck_rule};
+
     /// What the character makes of the token. A token's first character and those of a reference are
     /// told apart before all else, since most that are taken one at a time are such.
     #[inline]
@@ -300,22 +333,6 @@ impl Scan {
             Scan::EndGap => end_gap(c),
         }
     }
-}
-
-/// The turn, where the test holds.
-pub(crate) fn goes_if(holds: bool, turn: Turn) -> Turn
-    ensures { result ≡ goes_if holds turn }
-{
-    if holds { turn } else { Turn::Stuck }
-}
-
-/// The scan reads the tokens of the grammar, and nothing else.
-fn reads_grammar()
-    ensures { ReadsGrammar }
-{}
-
-impl Scan {
-    ghost use Rattle.markup.specs.inner.Tokenizers.{is_between, is_text, is_tag, is_reference_open, stuck_rule};
 
     /// Whether a token begins behind another that is not the byte order mark.
     #[inline]
@@ -376,4 +393,58 @@ impl Scan {
             Rule::BadMarkup
         }
     }
+
+    /// Whether a token is open of which the next byte settles nothing.
+    #[inline]
+    pub(crate) fn is_inside(self) -> bool
+        ensures { result ≡ is_inside self }
+    {
+        !matches!(
+            self,
+            Scan::Begin(_) | Scan::AfterReturn | Scan::Bracket | Scan::Brackets
+        )
+    }
+
+    /// Whether the open token is a tag, or may become one.
+    #[inline]
+    pub(crate) fn may_be_tag(self) -> bool
+        ensures { result ≡ may_be_tag self }
+    {
+        matches!(self, Scan::Opened(_)) || self.is_tag()
+    }
+
+    /// How many bytes at the front of the piece leave the scan as it is.
+    #[inline]
+    pub(crate) fn still_length(self, piece: &[u8]) -> usize
+        ensures within { result ≤ length piece.now }
+        ensures still { IsStill self (take result piece.now) }
+    {
+        match self {
+            Scan::Value(quote, after_return) => {
+                if after_return {
+                    0
+                } else {
+                    value_length(quote, piece)
+                }
+            }
+            Scan::StartName(part) => part_length(part, piece),
+            Scan::AttributeName(part) => part_length(part, piece),
+            Scan::EndName(part) => part_length(part, piece),
+            Scan::CommentText => comment_length(piece),
+            Scan::InstructionText => instruction_length(piece),
+            _ => 0,
+        }
+    }
 }
+
+/// The turn, where the test holds.
+pub(crate) fn goes_if(holds: bool, turn: Turn) -> Turn
+    ensures { result ≡ goes_if holds turn }
+{
+    if holds { turn } else { Turn::Stuck }
+}
+
+/// The scan reads the tokens of the grammar, and nothing else.
+fn reads_grammar()
+    ensures { ReadsGrammar }
+{}
