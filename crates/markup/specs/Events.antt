@@ -5,6 +5,7 @@ use Rattle.std.specs.Str.{bytes_eq}
 use Rattle.std.specs.declared.cmp.Ordering.TheVariants.{Less, Equal, Greater}
 use Rattle.lexical_core.specs.Tree.{Expanded, Entry, Item, Starts, Char, Ends, Skipped}
 use Rattle.lexical_core.specs.Names.{xml_namespace, xmlns, name_cmp}
+use Rattle.markup.specs.Ascii.{line_feed}
 use Rattle.markup.specs.declared.tag.Spelled.{Spelled}
 use Rattle.markup.specs.declared.tag.Given.{Given}
 use Rattle.markup.specs.declared.tag.Opening.{Opening}
@@ -104,7 +105,7 @@ abbrev pub items_of : List Token → Token → List Item
 items_of before (Start tag) = start_items (open_tags before) (opening tag)
 items_of before (End name gap) = end_items (open_tags before)
 items_of before (Refer reference) = Char (referred_character reference) ∷ []
-items_of before (LineEnd line) = Char 10 ∷ []
+items_of before (LineEnd line) = Char line_feed ∷ []
 items_of before (Character c) = Char c ∷ []
 items_of before _ = Skipped ∷ []
 

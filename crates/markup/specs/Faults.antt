@@ -8,6 +8,7 @@ use Rattle.lexical_core.specs.declared.rule.Rule.TheVariants.{BadUtf8, BadMarkup
 use Rattle.lexical_core.specs.Names.{xmlns, xml_namespace, xmlns_namespace}
 use Rattle.lexical_core.specs.Tree.{Expanded}
 use Rattle.lexical_core.specs.Utf8.{IsFront, IsNoFront}
+use Rattle.markup.specs.Ascii.{exclamation_mark, ampersand, semicolon, less_than, greater_than, question_mark, right_bracket}
 use Rattle.markup.specs.declared.tag.Spelled.{Spelled}
 use Rattle.markup.specs.declared.tag.Given.{Given}
 use Rattle.markup.specs.declared.tag.Opening.{Opening}
@@ -72,7 +73,7 @@ end_rule (tag ∷ tags) n = if bytes_eq tag.name.prefix n.prefix && bytes_eq tag
 
 -- a literal `]`
 abbrev pub is_bracket : Token → Bool
-is_bracket (Character c) = c == 93
+is_bracket (Character c) = c == right_bracket
 is_bracket _ = false
 
 -- The two tokens before are literal `]`.
@@ -99,7 +100,7 @@ rule_of before (Start tag) = start_rule (is_over before) (open_tags before) (ope
 rule_of before (End name gap) = end_rule (open_tags before) (spelled_name name)
 rule_of before (Refer reference) = outside_rule before
 rule_of before (LineEnd line) = None
-rule_of before (Character c) = if c == 62 && not (in_cdata before) && behind_brackets before then Some BadMarkup else (if is_space c then None else outside_rule before)
+rule_of before (Character c) = if c == greater_than && not (in_cdata before) && behind_brackets before then Some BadMarkup else (if is_space c then None else outside_rule before)
 
 -- The tokens (behind those before) and their events break no rule.
 abbrev pub IsClean : List Token → List Token → Type 0
@@ -121,13 +122,13 @@ pub record TokenGoesOn (before : List Token) (chars : List ℕ) : Type 0 where
 -- The characters end within a reference, where they begin within one or not.
 abbrev pub ends_in_reference : Bool → List ℕ → Bool
 ends_in_reference inside [] = inside
-ends_in_reference inside (c ∷ cs) = if c == 38 then ends_in_reference true cs else (if c == 59 then ends_in_reference false cs else ends_in_reference inside cs)
+ends_in_reference inside (c ∷ cs) = if c == ampersand then ends_in_reference true cs else (if c == semicolon then ends_in_reference false cs else ends_in_reference inside cs)
 
 -- The characters so far of a token end within a reference: the token is one, or a start tag.
 abbrev pub is_in_reference : List ℕ → Bool
 is_in_reference [] = false
-is_in_reference (c ∷ []) = c == 38
-is_in_reference (c ∷ d ∷ cs) = (c == 38 || (c == 60 && not (d == 33) && not (d == 63))) && ends_in_reference false (c ∷ d ∷ cs)
+is_in_reference (c ∷ []) = c == ampersand
+is_in_reference (c ∷ d ∷ cs) = (c == ampersand || (c == less_than && not (d == exclamation_mark) && not (d == question_mark))) && ends_in_reference false (c ∷ d ∷ cs)
 
 -- The bytes behind the characters of a token that goes on show that none goes on so; the rule, and the number of bytes that show it.
 pub data TokenStops (before : List Token) (chars tail : List ℕ) (rule : Rule) (shown : ℕ) : Type 0 where
@@ -139,7 +140,7 @@ pub data TokenStops (before : List Token) (chars tail : List ℕ) (rule : Rule) 
 abbrev pub IsTagBegun : List ℕ → Type 0
 IsTagBegun [] = ⊥
 IsTagBegun (c ∷ []) = ⊥
-IsTagBegun (c ∷ d ∷ cs) = (c ≡ 60) × (d ≢ 33) × (d ≢ 63)
+IsTagBegun (c ∷ d ∷ cs) = (c ≡ less_than) × (d ≢ exclamation_mark) × (d ≢ question_mark)
 
 -- No token is just these characters.
 abbrev pub IsUnended : List Token → List ℕ → Type 0

@@ -3,16 +3,17 @@ use Rattle.std.specs.Prelude.{◌≡◌, ℕ, Bool, ◌+◌, ◌==◌, ◌&&◌,
 use Rattle.std.specs.List.{AllByRecursion, list_all, prefix_len}
 use Rattle.lexical_core.specs.Characters.{IsXmlChar}
 use Rattle.lexical_core.specs.Tree.{Char}
+use Rattle.markup.specs.Ascii.{tab, line_feed, carriage_return, ampersand, less_than, greater_than, right_bracket}
 use Rattle.markup.specs.Chars.{is_xml_char, is_space}
 use Rattle.markup.specs.Events.{Placed}
 
--- a byte that is a character of an element's text, or a line end, wherever a token begins there, whatever stands before it and behind it (XML 1.0 §2.4, §2.7, §2.11)
+-- a byte of ASCII that is a character of an element's text, or a line end, wherever a token begins there, whatever stands before it and behind it: from 0x20 to 0x7F but for `<`, `&`, `]` and `>`, a TAB or an LF (XML 1.0 §2.4, §2.7, §2.11)
 abbrev pub is_literal : ℕ → Bool
-is_literal byte = (nat_le 32 byte && nat_le byte 127 && not (byte == 60) && not (byte == 38) && not (byte == 93) && not (byte == 62)) || byte == 9 || byte == 10
+is_literal byte = (nat_le 32 byte && nat_le byte 127 && not (byte == less_than) && not (byte == ampersand) && not (byte == right_bracket) && not (byte == greater_than)) || byte == tab || byte == line_feed
 
 -- the same, and a `>`, which is a character too where it ends no `]]>` (XML 1.0 §2.4)
 abbrev pub is_still_literal : ℕ → Bool
-is_still_literal byte = (nat_le 32 byte && nat_le byte 127 && not (byte == 60) && not (byte == 38) && not (byte == 93)) || byte == 9 || byte == 10
+is_still_literal byte = (nat_le 32 byte && nat_le byte 127 && not (byte == less_than) && not (byte == ampersand) && not (byte == right_bracket)) || byte == tab || byte == line_feed
 
 -- how many bytes at the front are such characters whatever stands before them: a literal one, and those behind it
 abbrev pub literal_front : List ℕ → ℕ
@@ -21,7 +22,7 @@ literal_front (byte ∷ bytes) = if is_literal byte then 1 + prefix_len is_still
 
 -- white space that stands by itself: a CR does not, which an LF may join (XML 1.0 §2.3, S; §2.11)
 abbrev pub is_still_space : ℕ → Bool
-is_still_space byte = is_space byte && not (byte == 13)
+is_still_space byte = is_space byte && not (byte == carriage_return)
 
 -- a character that is one of an element's text there: such a byte, or a character of several bytes that XML has (XML 1.0 §2.2)
 abbrev pub IsLiteral : ℕ → Type 0
@@ -29,7 +30,7 @@ IsLiteral c = (is_still_literal c ≡ true) ⊎ ((nat_le 128 c ≡ true) × (is_
 
 -- a character that is told in a run: one of these, or a `]`, which is a character by itself outside CDATA sections
 abbrev pub IsOfText : ℕ → Type 0
-IsOfText c = IsLiteral c ⊎ (c ≡ 93)
+IsOfText c = IsLiteral c ⊎ (c ≡ right_bracket)
 
 -- The bytes are those of so many such characters, which are white space where the bytes are.
 pub record IsRun (bytes : List ℕ) (count : ℕ) : Type 0 where
@@ -46,7 +47,7 @@ IsFreeRun bytes count = (run : IsRun bytes count) × AllByRecursion IsLiteral ru
 
 -- all of them are
 abbrev pub IsBracketRun : List ℕ → ℕ → Type 0
-IsBracketRun bytes count = (run : IsRun bytes count) × AllByRecursion (λ c. c ≡ 93) run.characters
+IsBracketRun bytes count = (run : IsRun bytes count) × AllByRecursion (λ c. c ≡ right_bracket) run.characters
 
 -- these characters, the first at the place
 abbrev pub characters_from : ℕ → List ℕ → List Placed

@@ -1,6 +1,7 @@
 -- Which token may stand where, and the list of tokens that a byte list is.
 use Rattle.std.specs.Prelude.{◌≡◌, ◌⊎◌, ◌≤◌, ◌^◌, ℕ, Bool, ◌==◌, ◌||◌, ◌&&◌, nat_le, not, true, false, List, [], ◌∷◌, ◌++◌, length, if◌then◌else◌}
 use Rattle.std.specs.List.{list_all}
+use Rattle.markup.specs.Ascii.{line_feed, carriage_return, ampersand, less_than, greater_than, right_bracket}
 use Rattle.markup.specs.Chars.{is_xml_char, is_space}
 use Rattle.markup.specs.Name.{is_name}
 use Rattle.markup.specs.Reference.{is_reference}
@@ -21,21 +22,21 @@ begins_with b (c ∷ rest) = c == b
 
 -- CR LF is one line end, so a CR alone is one only where no LF follows (XML 1.0 §2.11).
 abbrev pub is_line_end : Line → List ℕ → Bool
-is_line_end Cr rest = not (begins_with 10 rest)
+is_line_end Cr rest = not (begins_with line_feed rest)
 is_line_end Lf rest = true
 is_line_end CrLf rest = true
 
 -- The bytes after a `]` show that it begins no `]]>` (XML 1.0 §2.7, CDEnd).
 abbrev pub shows_no_closer : List ℕ → Bool
 shows_no_closer [] = false
-shows_no_closer (b ∷ []) = not (b == 93)
-shows_no_closer (b ∷ c ∷ rest) = not (b == 93 && c == 62)
+shows_no_closer (b ∷ []) = not (b == right_bracket)
+shows_no_closer (b ∷ c ∷ rest) = not (b == right_bracket && c == greater_than)
 
 -- Is the token one that may stand in a CDATA section, before these bytes? (XML 1.0 §2.7, CData)
 abbrev pub stands_in_cdata : Token → List ℕ → Bool
 stands_in_cdata Closer rest = true
 stands_in_cdata (LineEnd line) rest = is_line_end line rest
-stands_in_cdata (Character c) rest = is_xml_char c && not (c == 10) && not (c == 13) && (not (c == 93) || shows_no_closer rest)
+stands_in_cdata (Character c) rest = is_xml_char c && not (c == line_feed) && not (c == carriage_return) && (not (c == right_bracket) || shows_no_closer rest)
 stands_in_cdata _ rest = false
 
 -- Is it one that may stand elsewhere? (XML 1.0 §2.4, CharData, and §3.1, content)
@@ -51,7 +52,7 @@ stands_outside (Start tag) rest = is_start_tag tag
 stands_outside (End name gap) rest = is_name name && list_all is_space gap
 stands_outside (Refer reference) rest = is_reference reference
 stands_outside (LineEnd line) rest = is_line_end line rest
-stands_outside (Character c) rest = is_xml_char c && not (c == 10) && not (c == 13) && not (c == 60) && not (c == 38)
+stands_outside (Character c) rest = is_xml_char c && not (c == line_feed) && not (c == carriage_return) && not (c == less_than) && not (c == ampersand)
 
 -- Nothing stands before, or the byte order mark alone.
 abbrev pub is_first : List Token → Bool

@@ -1,6 +1,7 @@
 -- Names with a prefix or without one (Namespaces in XML 1.0 §4, QName).
 use Rattle.std.specs.Prelude.{ℕ, Bool, ◌&&◌, false, List, [], ◌∷◌, ◌++◌}
 use Rattle.std.specs.List.{list_all}
+use Rattle.markup.specs.Ascii.{colon}
 use Rattle.markup.specs.Chars.{is_name_start, is_name_char}
 
 -- a name as its characters: UnprefixedName or PrefixedName
@@ -21,4 +22,4 @@ is_name (Prefixed prefix local) = is_part prefix && is_part local
 -- the name as it is written
 abbrev pub name_text : Name → List ℕ
 name_text (Plain local) = local
-name_text (Prefixed prefix local) = prefix ++ 58 ∷ local
+name_text (Prefixed prefix local) = prefix ++ colon ∷ local

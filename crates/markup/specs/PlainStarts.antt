@@ -2,6 +2,7 @@
 -- A name is a plain one, or two plain ones that one colon joins: of a tag with a prefix, of an attribute with one, and in the declaration of one. What a prefix means is not asked, nor whether it may stand there.
 use Rattle.std.specs.Prelude.{ℕ, Bool, ◌==◌, ◌||◌, ◌&&◌, nat_le, not, true, List, [], ◌∷◌, ◌++◌, if◌then◌else◌}
 use Rattle.std.specs.List.{list_all, flat_map}
+use Rattle.markup.specs.Ascii.{space, quotation_mark, ampersand, apostrophe, slash, less_than, equals_sign, greater_than}
 use Rattle.markup.specs.PlainTags.{is_plain_name, joined_text}
 use Rattle.markup.specs.declared.tag.Spelled.{Spelled}
 
@@ -20,11 +21,11 @@ qualified_text n = joined_text n.prefix n.local
 
 -- one of the two kinds of quotes (XML 1.0 §2.3, AttValue)
 abbrev pub is_quote : ℕ → Bool
-is_quote b = b == 34 || b == 39
+is_quote b = b == quotation_mark || b == apostrophe
 
 -- a byte that stands for itself in a value in these quotes, and neither ends it nor begins a reference (XML 1.0 §2.3, AttValue; §3.3.3)
 abbrev pub is_literal_of : ℕ → ℕ → Bool
-is_literal_of quote byte = nat_le 32 byte && nat_le byte 127 && not (byte == 60) && not (byte == 38) && not (byte == quote)
+is_literal_of quote byte = nat_le 32 byte && nat_le byte 127 && not (byte == less_than) && not (byte == ampersand) && not (byte == quote)
 
 -- an attribute of such a tag
 pub record PlainAttribute : Type 0 where
@@ -38,7 +39,7 @@ is_plain_attribute a = is_plain_qualified a.name && is_quote a.quote && list_all
 
 -- the attribute as it is written: a space, the name, `=`, the value in quotes
 abbrev pub plain_attribute_text : PlainAttribute → List ℕ
-plain_attribute_text a = 32 ∷ (qualified_text a.name ++ 61 ∷ a.quote ∷ (a.value ++ a.quote ∷ []))
+plain_attribute_text a = space ∷ (qualified_text a.name ++ equals_sign ∷ a.quote ∷ (a.value ++ a.quote ∷ []))
 
 -- such a start tag, or such a tag of an empty element
 pub record PlainStart : Type 0 where
@@ -52,8 +53,8 @@ is_plain_start t = is_plain_qualified t.name && list_all is_plain_attribute t.at
 
 -- what it ends with
 abbrev pub start_end : Bool → List ℕ
-start_end is_empty = if is_empty then 47 ∷ 62 ∷ [] else 62 ∷ []
+start_end is_empty = if is_empty then slash ∷ greater_than ∷ [] else greater_than ∷ []
 
 -- the tag as it is written
 abbrev pub plain_start_text : PlainStart → List ℕ
-plain_start_text t = 60 ∷ (qualified_text t.name ++ (flat_map plain_attribute_text t.attributes ++ start_end t.is_empty))
+plain_start_text t = less_than ∷ (qualified_text t.name ++ (flat_map plain_attribute_text t.attributes ++ start_end t.is_empty))

@@ -3,6 +3,7 @@ use Rattle.std.specs.Prelude.{◌≡◌, ℕ, Bool, ◌==◌, ◌||◌, ◌&&◌
 use Rattle.std.specs.Int.{is_in_range}
 use Rattle.std.specs.List.{list_all}
 use Rattle.lexical_core.specs.Tree.{Expanded, Item, Starts, Char, Ends, Skipped}
+use Rattle.markup.specs.Ascii.{slash, colon, less_than, greater_than}
 use Rattle.markup.specs.Marks.{tag_limit}
 use Rattle.markup.specs.Events.{Placed}
 use Rattle.markup.specs.declared.tag.Opening.{Opening}
@@ -26,13 +27,13 @@ is_plain_name (b ∷ more) = begins_plain b && list_all continues_plain more
 -- what is written of a prefix and a local name (Namespaces in XML 1.0 §4, QName)
 abbrev pub joined_text : List ℕ → List ℕ → List ℕ
 joined_text [] local = local
-joined_text (b ∷ more) local = (b ∷ more) ++ 58 ∷ local
+joined_text (b ∷ more) local = (b ∷ more) ++ colon ∷ local
 
 -- the tag of a name, as it is written
 abbrev pub tag_text : TagKind → List ℕ → List ℕ
-tag_text Start name = 60 ∷ (name ++ 62 ∷ [])
-tag_text Empty name = 60 ∷ (name ++ 47 ∷ 62 ∷ [])
-tag_text End name = 60 ∷ 47 ∷ (name ++ 62 ∷ [])
+tag_text Start name = less_than ∷ (name ++ greater_than ∷ [])
+tag_text Empty name = less_than ∷ (name ++ slash ∷ greater_than ∷ [])
+tag_text End name = less_than ∷ slash ∷ (name ++ greater_than ∷ [])
 
 -- how many bytes it has beside the name
 abbrev pub mark_count : TagKind → ℕ
@@ -101,8 +102,8 @@ pub record IsTagInside (piece : List ℕ) (tags : List Opening) (prefix : List �
 -- what the bytes behind the name of a start tag make of it
 abbrev pub slash_kind : List ℕ → Option TagKind
 slash_kind [] = None
-slash_kind (b ∷ rest) = if b == 62 then Some Empty else None
+slash_kind (b ∷ rest) = if b == greater_than then Some Empty else None
 
 abbrev pub closing : List ℕ → Option TagKind
 closing [] = None
-closing (b ∷ rest) = if b == 62 then Some Start else (if b == 47 then slash_kind rest else None)
+closing (b ∷ rest) = if b == greater_than then Some Start else (if b == slash then slash_kind rest else None)

@@ -2,7 +2,7 @@
 use Rattle.std.specs.Prelude.{◌≡◌, ◌≢◌, ◌<◌, ◌≤◌, ℕ, ◌+◌, ◌-◌, ◌==◌, true, false, List, [], ◌∷◌, ◌++◌, length, reverse, Option, None}
 use Rattle.std.specs.List.{list_all, flat_map}
 use Rattle.lexical_core.specs.declared.rule.Rule.TheVariants.{Truncated}
-use Rattle.markup.specs.Ascii.{is_ascii}
+use Rattle.markup.specs.Ascii.{is_ascii, carriage_return, right_bracket}
 use Rattle.markup.specs.Token.{Token, token_text, token_bytes}
 use Rattle.markup.specs.Marks.{Front, in_cdata, is_first, stands, tag_limit}
 use Rattle.markup.specs.Events.{Placed, events, open_tags}
@@ -186,8 +186,8 @@ pub record MayTakeInsideUnder (limit : ℕ) (reader : Reader) (bytes : List ℕ)
   pub others : List ℕ
   pub begun : keeps.reads.opens.chars ≡ first ∷ others
   pub whole : keeps.reads.opens.part ≡ []
-  pub no_return : (first == 13) ≡ false
-  pub no_bracket : (first == 93) ≡ false
+  pub no_return : (first == carriage_return) ≡ false
+  pub no_bracket : (first == right_bracket) ≡ false
   pub token : Token
   pub next : ℕ
   pub behind : List ℕ

@@ -2,6 +2,7 @@
 use Rattle.std.specs.Prelude.{ℕ, Bool, ◌==◌, ◌||◌, ◌&&◌, ◌+◌, ◌*◌, true, not, List, [], ◌∷◌, ◌++◌, length, codes, if◌then◌else◌}
 use Rattle.std.specs.List.{list_all}
 use Rattle.std.specs.Char.{is_digit, digit_value}
+use Rattle.markup.specs.Ascii.{quotation_mark, ampersand, apostrophe, less_than, greater_than}
 use Rattle.markup.specs.Chars.{is_xml_char}
 
 -- the entities that need no declaration (XML 1.0 §4.6)
@@ -22,11 +23,11 @@ entity_name Quote = codes "quot"
 
 -- the character that the entity stands for
 abbrev pub entity_char : Entity → ℕ
-entity_char Ampersand = 38
-entity_char Less = 60
-entity_char Greater = 62
-entity_char Apostrophe = 39
-entity_char Quote = 34
+entity_char Ampersand = ampersand
+entity_char Less = less_than
+entity_char Greater = greater_than
+entity_char Apostrophe = apostrophe
+entity_char Quote = quotation_mark
 
 -- a reference to an entity, or to a character by its number in digits of radix 10 or 16 (XML 1.0 §4.1, EntityRef, CharRef)
 pub data Reference : Type 0 where

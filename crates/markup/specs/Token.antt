@@ -2,6 +2,7 @@
 use Rattle.std.specs.Prelude.{ℕ, Bool, ◌==◌, ◌&&◌, not, true, false, List, [], ◌∷◌, ◌++◌, codes, if◌then◌else◌, encode_utf8_all}
 use Rattle.std.specs.List.{list_all, flat_map}
 use Rattle.std.specs.Char.{to_ascii_lowercase}
+use Rattle.markup.specs.Ascii.{line_feed, carriage_return, hyphen_minus, greater_than, question_mark}
 use Rattle.markup.specs.Chars.{is_xml_char, is_space}
 use Rattle.markup.specs.Name.{Name, is_part, is_name, name_text}
 use Rattle.markup.specs.Reference.{Reference, reference_text}
@@ -25,14 +26,14 @@ start_tag_text t = codes "<" ++ name_text t.name ++ flat_map attribute_text t.at
 -- A comment's text has no two hyphens together and none at its end (XML 1.0 §2.5, Comment).
 abbrev pub is_comment : List ℕ → Bool
 is_comment [] = true
-is_comment (c ∷ []) = is_xml_char c && not (c == 45)
-is_comment (c ∷ d ∷ cs) = is_xml_char c && not (c == 45 && d == 45) && is_comment (d ∷ cs)
+is_comment (c ∷ []) = is_xml_char c && not (c == hyphen_minus)
+is_comment (c ∷ d ∷ cs) = is_xml_char c && not (c == hyphen_minus && d == hyphen_minus) && is_comment (d ∷ cs)
 
 -- An instruction's text does not hold `?>` (XML 1.0 §2.6, PI).
 abbrev pub is_instruction_text : List ℕ → Bool
 is_instruction_text [] = true
 is_instruction_text (c ∷ []) = is_xml_char c
-is_instruction_text (c ∷ d ∷ cs) = is_xml_char c && not (c == 63 && d == 62) && is_instruction_text (d ∷ cs)
+is_instruction_text (c ∷ d ∷ cs) = is_xml_char c && not (c == question_mark && d == greater_than) && is_instruction_text (d ∷ cs)
 
 -- the letters x, m, l, each in either case
 abbrev pub is_xml_word : List ℕ → Bool
@@ -52,9 +53,9 @@ pub data Line : Type 0 where
 
 -- the line end as it is written
 abbrev pub line_text : Line → List ℕ
-line_text Lf = 10 ∷ []
-line_text Cr = 13 ∷ []
-line_text CrLf = 13 ∷ 10 ∷ []
+line_text Lf = line_feed ∷ []
+line_text Cr = carriage_return ∷ []
+line_text CrLf = carriage_return ∷ line_feed ∷ []
 
 -- a token, as what it is made of
 pub data Token : Type 0 where

@@ -1,6 +1,7 @@
 //! Tags that stand whole at the front of a piece of the input.
 ghost use Rattle.std.specs.Prelude.{◌≡◌, ◌==◌, ◌<◌, ◌≤◌, ◌+◌, ◌-◌, ◌∷◌, ◌++◌, List, ℕ, true, false, Some, length, take, drop, IfSome, IsSome, IsSomeAnd};
 ghost use Rattle.std.specs.List.{prefix_len};
+ghost use Rattle.markup.specs.Ascii.{slash, less_than, greater_than};
 ghost use Rattle.markup.specs.Marks.{tag_limit, begins_with};
 ghost use Rattle.markup.specs.declared.plain_tag.TagKind.{TagKind};
 ghost use Rattle.markup.specs.declared.plain_tag.TagKind.TheVariants.{End};
@@ -166,7 +167,7 @@ fn behind_prefix<'a>(bytes: &'a [u8], prefix: &[u8]) -> Option<BehindPrefix<'a>>
 #[inline]
 fn start_tag<'a>(behind: &'a [u8], prefix: &[u8]) -> Option<PlainTag<'a>>
     ensures prefix { IfSome result (λ tag. tag.prefix.now ≡ prefix.now) }
-    ensures only { (opened : List ℕ) → IfSome result (λ tag. IsTagAt (60 ∷ behind.now) prefix.now opened tag.kind tag.name.now tag.bytes) }
+    ensures only { (opened : List ℕ) → IfSome result (λ tag. IsTagAt (less_than ∷ behind.now) prefix.now opened tag.kind tag.name.now tag.bytes) }
     ensures all { (kind : TagKind) (name rest : List ℕ) → is_plain_name name ≡ true → behind.now ≡ joined_text prefix.now (name ++ rest) → closing rest ≡ Some kind → length (tag_text kind (joined_text prefix.now name)) ≤ tag_limit → IsSome result }
 {
     let Some(named) = behind_prefix(behind, prefix) else {
@@ -189,8 +190,8 @@ fn start_tag<'a>(behind: &'a [u8], prefix: &[u8]) -> Option<PlainTag<'a>>
 #[inline]
 fn end_tag<'a>(behind: &'a [u8], prefix: &[u8], opened: &[u8]) -> Option<PlainTag<'a>>
     ensures prefix { IfSome result (λ tag. tag.prefix.now ≡ prefix.now) }
-    ensures only { IfSome result (λ tag. IsTagAt (60 ∷ 47 ∷ behind.now) prefix.now opened.now tag.kind tag.name.now tag.bytes) }
-    ensures all { (rest : List ℕ) → behind.now ≡ joined_text prefix.now (opened.now ++ 62 ∷ rest) → length (tag_text End (joined_text prefix.now opened.now)) ≤ tag_limit → IsSome result }
+    ensures only { IfSome result (λ tag. IsTagAt (less_than ∷ slash ∷ behind.now) prefix.now opened.now tag.kind tag.name.now tag.bytes) }
+    ensures all { (rest : List ℕ) → behind.now ≡ joined_text prefix.now (opened.now ++ greater_than ∷ rest) → length (tag_text End (joined_text prefix.now opened.now)) ≤ tag_limit → IsSome result }
 {
     let Some(named) = behind_prefix(behind, prefix) else {
         return None;
@@ -216,7 +217,7 @@ fn end_tag<'a>(behind: &'a [u8], prefix: &[u8], opened: &[u8]) -> Option<PlainTa
 pub(crate) fn tag_at<'a>(piece: &'a [u8], prefix: &[u8], opened: &[u8]) -> Option<PlainTag<'a>>
     ensures prefix { IfSome result (λ tag. tag.prefix.now ≡ prefix.now) }
     ensures only { IfSome result (λ tag. IsTagAt piece.now prefix.now opened.now tag.kind tag.name.now tag.bytes) }
-    ensures all { (kind : TagKind) (name rest : List ℕ) → begins_with 47 prefix.now ≡ false → may_be_named kind opened.now name → piece.now ≡ tag_text kind (joined_text prefix.now name) ++ rest → length (tag_text kind (joined_text prefix.now name)) ≤ tag_limit → IsSome result }
+    ensures all { (kind : TagKind) (name rest : List ℕ) → begins_with slash prefix.now ≡ false → may_be_named kind opened.now name → piece.now ≡ tag_text kind (joined_text prefix.now name) ++ rest → length (tag_text kind (joined_text prefix.now name)) ≤ tag_limit → IsSome result }
 {
     let Some((first, behind)) = piece.split_first() else {
         return None;

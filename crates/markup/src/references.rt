@@ -1,5 +1,6 @@
 //! Whole references at the front of a piece (XML 1.0 §4.1).
 ghost use Rattle.std.specs.Prelude.{◌≡◌, ◌==◌, ◌||◌, ◌∷◌, ◌++◌, ℕ, List, IfSome, IsSome, IsTrue, true, encode_utf8_all};
+ghost use Rattle.markup.specs.Ascii.{semicolon};
 ghost use Rattle.markup.specs.Reference.{Reference, Entity, Named, Numbered, is_reference, reference_text};
 ghost use Rattle.markup.specs.inner.Numbers.{number_mark};
 ghost use Rattle.markup.specs.References.{IsReferenceAt};
@@ -92,7 +93,7 @@ fn number_at(radix: u32, piece: &[u8], digits: &[u8]) -> Option<CharacterReferen
     requires radix { (radix == 10 || radix == 16) ≡ true }
     requires begun { piece.now ≡ number_mark radix ++ digits.now }
     ensures only { IfSome result (λ r. IsReferenceAt piece.now r.character r.bytes) }
-    ensures all { (spelled rest : List ℕ) → is_reference (Numbered radix spelled) ≡ true → digits.now ≡ spelled ++ 59 ∷ rest → IsSome result }
+    ensures all { (spelled rest : List ℕ) → is_reference (Numbered radix spelled) ≡ true → digits.now ≡ spelled ++ semicolon ∷ rest → IsSome result }
 {
     let mut number = 0_u32;
     let mut rest = digits;

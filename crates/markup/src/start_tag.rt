@@ -1,6 +1,7 @@
 //! Start tags that stand whole at the front of a piece of the input, as slices of it.
 ghost use Rattle.std.specs.Prelude.{◌≡◌, ◌<◌, ◌≤◌, ◌++◌, ℕ, List, [], length, take, drop, map, IfOk, OnOk, IfSome, IsSomeAnd, true, false};
 ghost use Rattle.std.specs.List.{list_all, flat_map, prefix_len};
+ghost use Rattle.markup.specs.Ascii.{space};
 ghost use Rattle.markup.specs.Marks.{tag_limit, begins_with};
 ghost use Rattle.markup.specs.PlainTags.{continues_plain, is_plain_name};
 ghost use Rattle.markup.specs.PlainStarts.{is_quote, PlainAttribute, is_plain_attribute, plain_attribute_text, PlainStart, is_plain_start, plain_start_text};
@@ -214,7 +215,7 @@ fn attributes_at<'a>(
     requires { found.old.items ≡ [] }
     ensures within { IfOk result (λ n. n ≤ length bytes.now) }
     ensures are { IfOk result (λ n. AreGiven bytes.now (map tag_given found.new.items) (drop n bytes.now)) }
-    ensures all { (attributes : List PlainAttribute) (last : List ℕ) → list_all is_plain_attribute attributes ≡ true → begins_with 32 last ≡ false → bytes.now ≡ flat_map plain_attribute_text attributes ++ last →
+    ensures all { (attributes : List PlainAttribute) (last : List ℕ) → list_all is_plain_attribute attributes ≡ true → begins_with space last ≡ false → bytes.now ≡ flat_map plain_attribute_text attributes ++ last →
         IfOk result (λ n. n ≡ length (flat_map plain_attribute_text attributes)) }
 {
     make_room(bytes, found)?;

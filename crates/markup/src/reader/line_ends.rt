@@ -1,6 +1,7 @@
 //! A line end of two bytes that a reader takes at once.
 ghost use Rattle.std.specs.Prelude.{◌≡◌, ◌≤◌, ◌^◌, ◌+◌, ◌∷◌, ◌++◌, ℕ, List, [], IsTrue, IsFalse, true, Some, None, length, take};
 ghost use Rattle.lexical_core.specs.Tree.{Char};
+ghost use Rattle.markup.specs.Ascii.{line_feed, carriage_return};
 ghost use Rattle.markup.specs.Events.{Placed};
 ghost use Rattle.markup.specs.Reading.{bytes_taken, reader_failure, HasTakenUnder, HasToldUnder};
 ghost use Rattle.markup.specs.References.{MayReferUnder};
@@ -12,8 +13,8 @@ use super::{MarkError, Reader};
 /// Whether the piece begins with a CR and an LF.
 #[inline]
 fn begins_line_end(piece: &[u8]) -> bool
-    ensures found { IsTrue result → (rest : List ℕ) × (piece.now ≡ 13 ∷ 10 ∷ rest) }
-    ensures all { (rest : List ℕ) → piece.now ≡ 13 ∷ 10 ∷ rest → IsTrue result }
+    ensures found { IsTrue result → (rest : List ℕ) × (piece.now ≡ carriage_return ∷ line_feed ∷ rest) }
+    ensures all { (rest : List ℕ) → piece.now ≡ carriage_return ∷ line_feed ∷ rest → IsTrue result }
 {
     let Some((first, behind)) = piece.split_first() else {
         return false;
@@ -36,9 +37,9 @@ impl Reader {
         requires { reader_failure self.old ≡ None → bytes_taken self.old + length piece.now ≤ 2 ^ 40 }
         ensures none { IsFalse result → self.new ≡ self.old }
         ensures within { IsTrue result → 2 ≤ length piece.now }
-        ensures only { IsTrue result → (rest : List ℕ) × (piece.now ≡ 13 ∷ 10 ∷ rest) }
-        ensures taken { (limit : ℕ) (bytes : List ℕ) (told : List Placed) → HasTakenUnder limit self.old bytes told → IsTrue result → HasToldUnder limit self.new (bytes ++ take 2 piece.now) (told ++ placed_at (length bytes) (Char 10 ∷ [])) }
-        ensures all { (limit : ℕ) (bytes : List ℕ) (told : List Placed) (rest : List ℕ) → MayReferUnder limit self.old bytes told → piece.now ≡ 13 ∷ 10 ∷ rest → IsTrue result }
+        ensures only { IsTrue result → (rest : List ℕ) × (piece.now ≡ carriage_return ∷ line_feed ∷ rest) }
+        ensures taken { (limit : ℕ) (bytes : List ℕ) (told : List Placed) → HasTakenUnder limit self.old bytes told → IsTrue result → HasToldUnder limit self.new (bytes ++ take 2 piece.now) (told ++ placed_at (length bytes) (Char line_feed ∷ [])) }
+        ensures all { (limit : ℕ) (bytes : List ℕ) (told : List Placed) (rest : List ℕ) → MayReferUnder limit self.old bytes told → piece.now ≡ carriage_return ∷ line_feed ∷ rest → IsTrue result }
         ensures count { IsTrue result → bytes_taken self.new ≡ bytes_taken self.old + 2 }
         ensures failed { reader_failure self.new ≡ reader_failure self.old }
         ensures again { (e : MarkError) → reader_failure self.old ≡ Some e → IsFalse result }
@@ -54,10 +55,10 @@ impl Reader {
     /// Whether a CR LF is at the front of the piece, where one may come.
     #[inline]
     fn is_line_end_next(&self, piece: &[u8]) -> bool
-        ensures only { IsTrue result → (rest : List ℕ) × (piece.now ≡ 13 ∷ 10 ∷ rest) }
+        ensures only { IsTrue result → (rest : List ℕ) × (piece.now ≡ carriage_return ∷ line_feed ∷ rest) }
         ensures ready { IsTrue result → is_in_text self.now.tokenizer ≡ true }
         ensures sound { IsTrue result → reader_failure self.now ≡ None }
-        ensures all { (limit : ℕ) (bytes : List ℕ) (told : List Placed) (rest : List ℕ) → MayReferUnder limit self.now bytes told → piece.now ≡ 13 ∷ 10 ∷ rest → IsTrue result }
+        ensures all { (limit : ℕ) (bytes : List ℕ) (told : List Placed) (rest : List ℕ) → MayReferUnder limit self.now bytes told → piece.now ≡ carriage_return ∷ line_feed ∷ rest → IsTrue result }
         ensures none { (e : MarkError) → reader_failure self.now ≡ Some e → IsFalse result }
     {
         if self.failed.is_some() {

@@ -1,5 +1,6 @@
 //! Start tags that a reader takes whole without a copy.
 ghost use Rattle.std.specs.Prelude.{◌≡◌, ◌<◌, ◌≤◌, ◌^◌, ◌+◌, ◌∷◌, ◌++◌, ℕ, List, [], IfOk, IfErr, IfSome, IsSome, IsSomeAnd, Some, None, Err, true, length, map, take};
+ghost use Rattle.markup.specs.Ascii.{less_than};
 ghost use Rattle.markup.specs.Events.{Placed, start_tag_items};
 ghost use Rattle.markup.specs.PlainTags.{joined_text, name_behind};
 ghost use Rattle.markup.specs.PlainStarts.{PlainStart, plain_start_text};
@@ -29,7 +30,7 @@ impl Reader {
         requires { reader_failure self.old ≡ None → bytes_taken self.old + length piece.now ≤ 2 ^ 40 }
         ensures none { IfOk result (λ o. o ≡ None → self.new ≡ self.old) }
         ensures within { IfOk result (λ o. IfSome o (λ tag. (0 < tag.bytes) × (tag.bytes ≤ length piece.now))) }
-        ensures spelled { IfOk result (λ o. IfSome o (λ tag. (rest : List ℕ) × (piece.now ≡ 60 ∷ (joined_text tag.prefix.now tag.name.now ++ rest)))) }
+        ensures spelled { IfOk result (λ o. IfSome o (λ tag. (rest : List ℕ) × (piece.now ≡ less_than ∷ (joined_text tag.prefix.now tag.name.now ++ rest)))) }
         ensures taken { (limit : ℕ) (bytes : List ℕ) (told : List Placed) → HasTakenUnder limit self.old bytes told → IfOk result (λ o. IfSome o (λ tag.
             HasToldUnder limit self.new (bytes ++ take tag.bytes piece.now) (told ++ placed_at (length bytes) (start_tag_items (Some (record { namespace = tag.ns; local = tag.name.now })) (map tag_entry tag.attributes.items) tag.is_empty)))) }
         ensures same_ns { (limit : ℕ) (bytes : List ℕ) (told : List Placed) → HasTakenUnder limit self.old bytes told → IfOk result (λ o. IfSome o (λ tag. tag.has_same_ns ≡ true → tag.ns ≡ (name_behind told tag.name.now).namespace)) }
@@ -56,7 +57,7 @@ impl Reader {
         requires { bytes_taken self.old + length piece.now ≤ 2 ^ 40 }
         ensures none { IfOk result (λ o. o ≡ None → self.new ≡ self.old) }
         ensures within { IfOk result (λ o. IfSome o (λ tag. (0 < tag.bytes) × (tag.bytes ≤ length piece.now))) }
-        ensures spelled { IfOk result (λ o. IfSome o (λ tag. (rest : List ℕ) × (piece.now ≡ 60 ∷ (joined_text tag.prefix.now tag.name.now ++ rest)))) }
+        ensures spelled { IfOk result (λ o. IfSome o (λ tag. (rest : List ℕ) × (piece.now ≡ less_than ∷ (joined_text tag.prefix.now tag.name.now ++ rest)))) }
         ensures taken { (limit : ℕ) (bytes : List ℕ) (told : List Placed) → HasTakenUnder limit self.old bytes told → IfOk result (λ o. IfSome o (λ tag.
             HasToldUnder limit self.new (bytes ++ take tag.bytes piece.now) (told ++ placed_at (length bytes) (start_tag_items (Some (record { namespace = tag.ns; local = tag.name.now })) (map tag_entry tag.attributes.items) tag.is_empty)))) }
         ensures same_ns { (limit : ℕ) (bytes : List ℕ) (told : List Placed) → HasTakenUnder limit self.old bytes told → IfOk result (λ o. IfSome o (λ tag. tag.has_same_ns ≡ true → tag.ns ≡ (name_behind told tag.name.now).namespace)) }
