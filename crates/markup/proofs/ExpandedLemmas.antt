@@ -8,14 +8,12 @@ use Rattle.std.specs.List.Retain.{RetainsInTurn}
 use Rattle.std.proofs.lemmas.Bool.{and_parts}
 use Rattle.std.proofs.lemmas.Grind.{common_steps}
 use Rattle.std.proofs.lemmas.Bool.Decides.{nat_tests}
-use Rattle.std.specs.Str.{bytes_eq}
 use Rattle.lexical_core.specs.Tree.{Expanded as FullName, Entry}
-use Rattle.markup.specs.declared.tag.Spelled.{Spelled}
 use Rattle.markup.specs.declared.tag.Given.{Given}
 use Rattle.markup.specs.declared.tag.Opening.{Opening}
 use Rattle.markup.specs.declared.attributes.Expanded.{Expanded}
 use Rattle.markup.specs.declared.attributes.TagAttribute.{TagAttribute}
-use Rattle.markup.specs.Events.{declared_prefix, attribute_name, put, put_named, entries, expanded_in, namespace_of}
+use Rattle.markup.specs.Events.{declared_prefix, attribute_name, put, put_named, entries}
 use Rattle.markup.specs.Faults.{has_clash, clash, same_expanded}
 use Rattle.markup.specs.Scopes.{declarations}
 use Rattle.markup.specs.TagAttributes.{tag_entry}
@@ -59,14 +57,6 @@ any_clash tags x none (b ∷ more) all =
     ∙ any_named-put (attribute_name tags x.name) (attribute_name tags b.name) b.value (entries tags more) ∙ ap (any_named (attribute_name tags x.name)) (sym both)
 
 -- ---- one attribute
-
--- the expanded name by what a look-up of the prefix gave
-attribute_name_is : (tags : List Opening) (name : Spelled) (found : Option (List ℕ)) → found ≡ (if bytes_eq name.prefix [] then Some [] else namespace_of tags name.prefix) → attribute_name tags name ≡ expanded_in found name.local
-attribute_name_is tags name found is = ap (λ o. expanded_in o name.local) (sym is)
-
-pub bound_here : (tags : List Opening) (a : Given) (ns : List ℕ) → declared_prefix a.name ≡ None → Some ns ≡ (if bytes_eq a.name.prefix [] then Some [] else namespace_of tags a.name.prefix)
-    → attribute_under tags a ≡ Some (record { name = record { namespace = ns; local = a.name.local }; value = a.value })
-bound_here tags a ns d n = ap (λ p. if is_none p then entry_under tags a else None) d ∙ ap (named_entry a.value) (attribute_name_is tags a.name (Some ns) n)
 
 -- those that are left of all of them
 pub retained : {S X G E : Type 0} (R : S → X → Bool → S → X → Type 0) (given : X → G) (found : G → Option E) (entry : X → E) (s : S)

@@ -47,9 +47,6 @@ longest_by {limit} bytes rest ts f n = record { rest = rest; front = f; longest 
 pub marks_longest : {limit : ℕ} (bytes : List ℕ) (ts : List Token) → Front limit [] bytes ts [] → IsLongestUnder limit bytes ts
 marks_longest bytes ts f = longest_by bytes [] ts f (nothing_stands (tokens_behind [] ts))
 
-pub whole_longest : {limit : ℕ} (bytes : List ℕ) (w : IsWholeUnder limit bytes) → IsLongestUnder limit bytes w.tokens
-whole_longest bytes w = longest_by bytes [] w.tokens w.marks (nothing_stands (tokens_behind [] w.tokens))
-
 -- there is one longest list
 pub one_longest : {limit : ℕ} (bytes : List ℕ) (ts us : List Token) → IsLongestUnder limit bytes ts → IsLongestUnder limit bytes us → ts ≡ us
 one_longest bytes ts us l k = by ts us (l.longest us k.rest k.front) (k.longest ts l.rest l.front) where

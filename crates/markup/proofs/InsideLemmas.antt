@@ -35,9 +35,6 @@ use Rattle.markup.proofs.TokenizerLemmas.{none_front, tag_scan}
 
 -- ---- steps
 
-pub over_none : (z : Tokenizer) → GoesOver z z []
-over_none z = record { encoded = refl; scans = refl; after = refl }
-
 pub over_then : (a b c : Tokenizer) (xs ys : List ℕ) → GoesOver a b xs → GoesOver b c ys → GoesOver a c (xs ++ ys)
 over_then a b c xs ys g h = record {
   encoded = encodes-append xs ys ∙ (ap (λ v. v ++ encode_utf8_all ys) g.encoded ∙ ap (λ v. xs ++ v) h.encoded);
@@ -45,21 +42,12 @@ over_then a b c xs ys g h = record {
   after = h.after ∙ ap (λ z. with_scan z c.scan c.draft) g.after;
 }
 
--- nothing changes over no bytes
-pub over_same : (old new : Tokenizer) → GoesOver old new [] → new ≡ old
-over_same old new g =
-    let s : (old.scan ≡ new.scan) × (old.draft ≡ new.draft) = at_same old.scan new.scan old.draft new.draft g.scans in
-    g.after ∙ (ap (λ v. with_scan old v new.draft) (sym s.0) ∙ ap (λ v. with_scan old old.scan v) (sym s.1))
-
 -- ---- the bytes of a piece so far
 
 pub record IsOverFront (old new : Tokenizer) (piece rest : List ℕ) : Type 0 where
   pub seen : List ℕ
   pub joined : piece ≡ seen ++ rest
   pub over : GoesOver old new seen
-
-pub front_none : (z : Tokenizer) (piece : List ℕ) → IsOverFront z z piece piece
-front_none z piece = record { seen = []; joined = refl; over = over_none z }
 
 pub front_more : (a b c : Tokenizer) (piece rest behind : List ℕ) (n : ℕ) → IsOverFront a b piece rest → GoesOver b c (take n rest) → behind ≡ drop n rest → IsOverFront a c piece behind
 front_more a b c piece rest behind n f g e = record {

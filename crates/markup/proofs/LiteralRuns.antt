@@ -11,7 +11,7 @@ use Rattle.std.proofs.Math.Seq.{take-append_seam, drop-append_seam}
 use Rattle.lexical_core.specs.Characters.{IsXmlChar}
 use Rattle.lexical_core.specs.Begun.{IsTail}
 use Rattle.lexical_core.specs.Utf8.{Steps}
-use Rattle.lexical_core.specs.declared.utf8.Utf8.TheVariants.{More, Char}
+use Rattle.lexical_core.specs.declared.utf8.Utf8.TheVariants.{Char}
 use Rattle.lexical_core.proofs.ByteForms.{Spells, spells_2, spells_3}
 use Rattle.markup.specs.Chars.{is_xml_char, is_space}
 use Rattle.markup.proofs.CharLemmas.{classes, some_bytes}
@@ -31,19 +31,6 @@ pub record IsWalkedFree (piece : List ℕ) (bytes characters : ℕ) (rest : List
   pub bytes_are : length seen ≡ bytes
   pub run : IsFreeRun seen characters
   pub few : characters ≤ bytes
-
-pub begun_none : (piece : List ℕ) (utf8 : Option (List ℕ)) → utf8 ≡ Some [] → IsBegun piece utf8 0 piece
-begun_none piece utf8 h = record { seen = []; joined = refl; count_is = refl; utf8_is = h }
-
-pub begun_more : (piece : List ℕ) (old new : Option (List ℕ)) (count byte : ℕ) (rest after : List ℕ) → IsBegun piece old count rest → rest ≡ byte ∷ after → Steps old byte More new → IsBegun piece new (count + 1) after
-begun_more piece old new count byte rest after b e s =
-    let t : Steps (Some b.seen) byte More new = subst (λ u. Steps u byte More new) b.utf8_is s in
-    record {
-      seen = b.seen ++ byte ∷ [];
-      joined = b.joined ∙ (ap (λ v. b.seen ++ v) e ∙ sym (append_assoc b.seen (byte ∷ []) after));
-      count_is = length-append b.seen (byte ∷ []) ∙ ap (λ n. n + 1) b.count_is;
-      utf8_is = t.1;
-    }
 
 pub begun_whole : (piece : List ℕ) (old new : Option (List ℕ)) (count byte c : ℕ) (rest after : List ℕ) → IsBegun piece old count rest → rest ≡ byte ∷ after → Steps old byte (Char c) new → is_xml_char c ≡ true → IsAt piece (count + 1)
 begun_whole piece old new count byte c rest after b e s x =
@@ -213,9 +200,6 @@ pub walked_run : (piece : List ℕ) (bytes characters : ℕ) (rest : List ℕ) �
 walked_run piece bytes characters rest w = subst (λ v. IsFreeRun v characters) (sym front) w.run where
   front : take bytes piece ≡ w.seen
   front = ap (λ n. take n piece) (sym w.bytes_are) ∙ (ap (take (length w.seen)) w.joined ∙ take-append_seam w.seen rest)
-
-pub walked_within : (piece : List ℕ) (bytes characters : ℕ) (rest : List ℕ) → IsWalkedFree piece bytes characters rest → bytes + length rest ≡ length piece
-walked_within piece bytes characters rest w = ap (λ n. n + length rest) (sym w.bytes_are) ∙ (sym (length-append w.seen rest) ∙ ap length (sym w.joined))
 
 -- ---- white space
 

@@ -118,9 +118,6 @@ remaining radix digits n rest i spelled more h e =
       xml = ap is_xml_char (sym (i.goes_on left) ∙ ap (number radix 0) (sym l.split)) ∙ (and_parts _ _ h).1;
     }
 
-no_more : (x : ℕ) (left more : List ℕ) → [] ≡ left ++ x ∷ more → ⊥
-no_more x left more e = omega (arith, ap length e, length-append left (x ∷ more))
-
 -- what is no digit behind it is its semicolon
 pub number_ends : (radix : ℕ) (digits : List ℕ) (n byte : ℕ) (rest after : List ℕ) → (radix == 10 || radix == 16) ≡ true → IsCounting radix digits n rest → rest ≡ byte ∷ after → None ≡ digit_step radix n byte → (spelled more : List ℕ) → is_reference (Numbered radix spelled) ≡ true → digits ≡ spelled ++ 59 ∷ more → (byte ≡ 59) × (is_xml_char n ≡ true)
 number_ends radix digits n byte rest after r i e s spelled more h b = by k.left k.are (sym e ∙ k.behind) k.xml where

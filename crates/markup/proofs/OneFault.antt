@@ -184,9 +184,6 @@ pub record SameFault (r1 r2 : Rule) (a1 a2 : ℕ) : Type 0 where
   pub rule : r1 ≡ r2
   pub at : a1 ≡ a2
 
-swapped : (r1 r2 : Rule) (a1 a2 : ℕ) → SameFault r1 r2 a1 a2 → SameFault r2 r1 a2 a1
-swapped r1 r2 a1 a2 s = record { rule = sym s.rule; at = sym s.at }
-
 -- where one token begins with the characters of another that stops, both stop alike
 halts_halts : (before : List Token) (c1 c2 t1 t2 : List ℕ) (r1 r2 : Rule) (s1 s2 : ℕ) → encode_utf8_all c1 ++ t1 ≡ encode_utf8_all c2 ++ t2 → TokenGoesOn before c1 → TokenGoesOn before c2 → TokenStops before c1 t1 r1 s1 → TokenStops before c2 t2 r2 s2 → r1 ≡ r2
 halts_halts before c1 c2 t1 t2 r1 r2 s1 s2 e g1 g2 h1 h2 = by (compare_texts c1 c2 t1 t2 e) where

@@ -79,9 +79,6 @@ module _ {limit : ℕ} (z : Tokenizer) (before : List Token) (bytes : List ℕ) 
     at_next : position ts ≡ after_other z.position → no_draft ≡ z.draft → At (Begin (position ts)) no_draft ≡ At (Begin (after_other z.position)) z.draft
     at_next e f = ap (λ p. At (Begin p) no_draft) e ∙ ap (At (Begin (after_other z.position))) f
 
-  same_cdata : (b c : Bool) → b ≡ c → placed_by false b ≡ placed_by false c
-  same_cdata b c e = ap (placed_by false) e
-
   place_behind : after_other z.position ≡ placed_by false (in_cdata before)
   place_behind = ap after_other o.position_is ∙ sym (other_place before)
 

@@ -137,10 +137,6 @@ more_given bytes rest name value behind old new s a e =
       give = map-append given_by s.attributes (x ∷ []) ∙ (ap (λ w. w ++ given_by x ∷ []) s.give ∙ (ap (λ g. old ++ g ∷ []) (attribute_gives name a.quote value a.named a.quoted a.literal) ∙ sym e));
     }
 
--- what is left stands at the end
-pub given_within : (bytes rest : List ℕ) (given : List Given) → AreGiven bytes given rest → length rest ≤ length bytes
-given_within bytes rest given s = omega (arith, ap length s.spelled, length-append (encode_utf8_all (flat_map attribute_text s.attributes)) rest)
-
 -- ---- a value and an attribute that are found
 
 take_literal : (q : ℕ) (xs : List ℕ) (n : ℕ) → n ≤ prefix_len (is_literal_of q) xs → list_all (is_literal_of q) (take n xs) ≡ true

@@ -3,7 +3,7 @@ use Rattle.std.proofs.Common.{◌≡◌, ℕ, Bool, true, false, ◌+◌, codes,
 use Rattle.std.specs.Bool.{if◌then◌else◌}
 use Rattle.std.specs.List.{flat_map}
 use Rattle.std.specs.Option.{IfSome}
-use Rattle.std.proofs.lemmas.Bool.{and_parts, eqb-true, le-leb}
+use Rattle.std.proofs.lemmas.Bool.{and_parts, le-leb}
 use Rattle.std.proofs.lemmas.List.{length-take-le, take-append-drop}
 use Rattle.std.proofs.lemmas.Str.{encode_ascii, encodes-append}
 use Rattle.std.specs.Str.{encode_utf8_all}
@@ -84,9 +84,6 @@ module _ {limit : ℕ} (r : Reader) (bytes piece : List ℕ) (told : List Placed
 
     between : is_between r.tokenizer.scan ≡ true
     between = text_between r.tokenizer.scan (and_parts _ _ text).0
-
-    pub place_is : r.tokenizer.start ≡ length bytes
-    place_is = sym (eqb-true r.tokenizer.place r.tokenizer.start (and_parts _ _ text).1) ∙ h.1.place
 
     no_cdata : in_cdata before ≡ false
     no_cdata = in_cdata-open r.tokenizer before h.1.reads.bytes h.1.reads.opens ∙ text_place r.tokenizer.scan r.tokenizer.position (and_parts _ _ text).0 (is_fresh r.tokenizer between (and_parts _ _ text).1 before h.1.reads.bytes h.1.reads.opens).scan_here

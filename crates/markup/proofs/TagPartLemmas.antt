@@ -5,10 +5,9 @@ use Rattle.markup.specs.declared.tag.Given.{Given}
 use Rattle.markup.specs.declared.attributes.Declared.{Declared}
 use Rattle.markup.specs.declared.bindings.Bindings.{Bindings}
 use Rattle.markup.specs.Events.{declared_prefix}
-use Rattle.markup.specs.Faults.{is_bad_declaration}
 use Rattle.markup.specs.inner.Bindings.{Binds, declares}
 use Rattle.markup.specs.Scopes.{declarations}
-use Rattle.markup.specs.inner.TagParts.{declares_twice, declares_badly, AreDeclared}
+use Rattle.markup.specs.inner.TagParts.{declares_twice, AreDeclared}
 
 -- ---- tests
 
@@ -40,11 +39,6 @@ any_declared (a ∷ more) prefix = case (declared_prefix a.name) refl (any_decla
     case (Some p) e so = simp (e, so)
 
 -- ---- one more attribute before the others
-
--- a declaration
-pub bad_first : (first : Given) (given : List Given) (prefix : List ℕ) (old bad : Bool) → declared_prefix first.name ≡ Some prefix → bad ≡ is_bad_declaration (Some prefix) first.value
-    → old ≡ list_any declares_badly given → (old || bad) ≡ list_any declares_badly (first ∷ given)
-bad_first first given prefix old bad of_prefix is_bad was = or_comm old bad ∙ ap (λ b. b || old) (is_bad ∙ ap (λ p. is_bad_declaration p first.value) (sym of_prefix)) ∙ ap (λ b. declares_badly first || b) was
 
 -- it is open behind those that were before
 pub declared_first : (before : List Given) (first : Given) (given : List Given) (prefix : List ℕ) (old : Declared) (kept more : Bindings) (count : ℕ) (again bad : Bool)

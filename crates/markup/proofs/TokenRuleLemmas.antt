@@ -3,10 +3,10 @@ use Rattle.std.proofs.Common.{◌≡◌, ℕ, Bool, true, false, List, [], ◌�
 use Rattle.markup.specs.Token.{Token, Mark, Declaration, Comment, Instruction, Opener, Closer, TypeDeclaration, Start, End, Refer, LineEnd, Character}
 use Rattle.markup.specs.Marks.{in_cdata, is_first}
 use Rattle.markup.specs.Events.{open_tags, items_of}
-use Rattle.markup.specs.Faults.{has_start, is_over, behind_brackets, rule_of}
+use Rattle.markup.specs.Faults.{is_over, behind_brackets, rule_of}
 use Rattle.markup.specs.inner.ScanRuns.{position, placed_by, ended_of, draft_of}
 use Rattle.markup.specs.inner.Tokenizers.{IsTokenOpen}
-use Rattle.markup.specs.inner.TokenRules.{rule_by, items_by, tags_by, started_by, brackets, brackets_by, is_cdata}
+use Rattle.markup.specs.inner.TokenRules.{rule_by, items_by, tags_by, is_cdata}
 use Rattle.markup.specs.declared.draft.Draft.{Draft}
 use Rattle.markup.specs.declared.scan.Ended.{Ended}
 use Rattle.markup.specs.declared.tokenizer.Tokenizer.{Tokenizer}
@@ -54,34 +54,6 @@ tags_are before (Refer r) = refl
 tags_are before (LineEnd l) = refl
 tags_are before (Character c) = refl
 
-started_is : (before : List Token) (t : Token) → has_start (t ∷ before) ≡ started_by (has_start before) (ended_of t)
-started_is before Mark = refl
-started_is before (Declaration fs g) = refl
-started_is before (Comment s) = refl
-started_is before (Instruction p s) = refl
-started_is before Opener = refl
-started_is before Closer = refl
-started_is before TypeDeclaration = refl
-started_is before (Start t) = refl
-started_is before (End n g) = refl
-started_is before (Refer r) = refl
-started_is before (LineEnd l) = refl
-started_is before (Character c) = refl
-
-brackets_are : (before : List Token) (t : Token) → brackets (t ∷ before) ≡ brackets_by (brackets before) (ended_of t)
-brackets_are before Mark = refl
-brackets_are before (Declaration fs g) = refl
-brackets_are before (Comment s) = refl
-brackets_are before (Instruction p s) = refl
-brackets_are before Opener = refl
-brackets_are before Closer = refl
-brackets_are before TypeDeclaration = refl
-brackets_are before (Start t) = refl
-brackets_are before (End n g) = refl
-brackets_are before (Refer r) = refl
-brackets_are before (LineEnd l) = refl
-brackets_are before (Character c) = refl
-
 -- the place of the next token tells whether a CDATA section is open
 pub in_cdata-position : (before : List Token) → in_cdata before ≡ is_cdata (position before)
 in_cdata-position [] = refl
@@ -96,12 +68,6 @@ in_cdata-open z before bytes o = in_cdata-position before ∙ ap is_cdata (sym o
 
 -- a token of which the scan says this
 module _ (before : List Token) (t : Token) (e : Ended) (p : ended_of t ≡ e) where
-  pub started_ended : has_start (t ∷ before) ≡ started_by (has_start before) e
-  started_ended = started_is before t ∙ ap (started_by (has_start before)) p
-
-  pub brackets_ended : brackets (t ∷ before) ≡ brackets_by (brackets before) e
-  brackets_ended = brackets_are before t ∙ ap (brackets_by (brackets before)) p
-
   module _ (d : Draft) (q : draft_of t ≡ d) where
     pub rule_ended : rule_of before t ≡ rule_by (in_cdata before) (is_over before) (open_tags before) (behind_brackets before) e d
     rule_ended = rule_is before t ∙ (ap (λ (x : Ended). rule_by (in_cdata before) (is_over before) (open_tags before) (behind_brackets before) x (draft_of t)) p ∙ ap (rule_by (in_cdata before) (is_over before) (open_tags before) (behind_brackets before) e) q)

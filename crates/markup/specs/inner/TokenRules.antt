@@ -63,11 +63,6 @@ tags_by tags (Start is_empty) d = if is_empty then tags else opening_of_draft is
 tags_by tags End d = drop 1 tags
 tags_by tags e d = tags
 
--- whether a start tag has come
-abbrev pub started_by : Bool → Ended → Bool
-started_by started (Start is_empty) = true
-started_by started e = started
-
 -- one more literal `]`, of two at most
 abbrev pub one_more : ℕ → ℕ
 one_more n = if n == 0 then 1 else 2
