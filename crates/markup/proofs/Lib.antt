@@ -82,4 +82,5 @@ pub mod Stays
 pub mod PlainCharacters
 pub mod TokensBehind
 pub mod AsideTexts
+mod InstructionTexts
 pub mod WholeAsides

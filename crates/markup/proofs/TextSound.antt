@@ -29,11 +29,11 @@ comment_hyphen : (c : ℕ) (s : List ℕ) → is_xml_char c ≡ true → (c == 4
 comment_hyphen c s h k a = and_from _ _ (and_from _ _ hyphen_xml (not_from_false _ k)) (comment_more c s h k a)
 
 -- an instruction's text with one more character before it
-instruction_more : (c : ℕ) (s : List ℕ) → is_xml_char c ≡ true → (c == 63) ≡ false → is_instruction_text s ≡ true → is_instruction_text (c ∷ s) ≡ true
+pub instruction_more : (c : ℕ) (s : List ℕ) → is_xml_char c ≡ true → (c == 63) ≡ false → is_instruction_text s ≡ true → is_instruction_text (c ∷ s) ≡ true
 instruction_more c [] h k a = h
 instruction_more c (d ∷ s) h k a = and_from _ _ (and_from _ _ h (not_from_false _ (and_left _ _ k))) a
 
-instruction_mark : (c : ℕ) (s : List ℕ) → (c == 62) ≡ false → is_instruction_text (c ∷ s) ≡ true → is_instruction_text (63 ∷ c ∷ s) ≡ true
+pub instruction_mark : (c : ℕ) (s : List ℕ) → (c == 62) ≡ false → is_instruction_text (c ∷ s) ≡ true → is_instruction_text (63 ∷ c ∷ s) ≡ true
 instruction_mark c s k a = and_from _ _ (and_from _ _ question_xml (not_from_false _ k)) a
 
 module _ (W : Position → List ℕ → Type 0) where

@@ -1,8 +1,9 @@
--- Tokens that a reader takes whole and that tell only that something is skipped: comments, and the two ends of CDATA sections.
-use Rattle.std.specs.Prelude.{◌≡◌, ℕ, Bool, true, false, List, reverse}
+-- Tokens that a reader takes whole and that tell only that something is skipped: comments, instructions, and the two ends of CDATA sections.
+use Rattle.std.specs.Prelude.{◌≡◌, ℕ, Bool, ◌&&◌, true, false, List, reverse}
 use Rattle.std.specs.List.{list_all}
 use Rattle.markup.specs.Ascii.{is_ascii}
 use Rattle.markup.specs.Token.{Token, Comment, Instruction, Opener, Closer, is_comment, is_instruction}
+use Rattle.markup.specs.PlainTags.{is_plain_name}
 use Rattle.markup.specs.Marks.{in_cdata}
 use Rattle.markup.specs.Events.{Placed}
 use Rattle.markup.specs.Reading.{IsInsideUnder}
@@ -16,9 +17,10 @@ is_aside_in false Opener = true
 is_aside_in true Closer = true
 is_aside_in _ _ = false
 
--- and of which a reader takes each that stands whole in a piece: a comment in ASCII, and the ends of a section
+-- and of which a reader takes each that stands whole in a piece: a comment in ASCII, an instruction in ASCII whose target is a plain name, and the ends of a section
 abbrev pub is_plain_aside : Token → Bool
 is_plain_aside (Comment text) = list_all is_ascii text
+is_plain_aside (Instruction target text) = is_plain_name target && list_all is_ascii text
 is_plain_aside Opener = true
 is_plain_aside Closer = true
 is_plain_aside _ = false

@@ -206,7 +206,7 @@ pub(crate) enum Passed {
 impl Passed {
     /// What its end begins with (XML 1.0 §2.5, §2.6).
     #[inline]
-    fn end(&self) -> u8
+    pub(crate) fn end(&self) -> u8
         ensures { result ≡ passed_end self.now }
     {
         match self {

@@ -7,8 +7,8 @@
 //! inside an element (`Run`), `take_blanks` one of white space alone, `take_reference` a whole reference
 //! (`CharacterReference`), `take_line_end` a CR LF, `take_tag` a whole tag without attributes (`PlainTag`) with the
 //! prefix of the innermost element or, as that, without one, `take_start_tag` any whole start tag with its prefixes,
-//! declarations and attributes (`StartTag`), `take_aside` a whole comment or one of the two ends of a CDATA section,
-//! `take_inside` bytes with which the open tag, comment or instruction goes on, and which show no event. They append
+//! declarations and attributes (`StartTag`), `take_aside` a whole comment or instruction or one of the two ends of a CDATA
+//! section, `take_inside` bytes with which the open tag, comment or instruction goes on, and which show no event. They append
 //! none: what they answer says which there are. `tag_attributes` hands on the attributes of an event as those of a
 //! `StartTag`, and `value_of` finds one by its name. `place` says how many bytes were taken, `token` how many are held
 //! of the names and values of the open tag, `depth` how many elements are open.
@@ -31,6 +31,7 @@ mod context;
 mod draft;
 pub mod event;
 mod inside;
+mod instructions;
 pub mod laws;
 mod literals;
 mod name_block;
@@ -40,6 +41,7 @@ mod namespace;
 mod open_bindings;
 mod open_names;
 mod origin;
+mod passed_texts;
 mod plain_tag;
 pub mod reader;
 mod reference;

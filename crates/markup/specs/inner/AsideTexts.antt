@@ -1,12 +1,16 @@
--- Texts of comments up to their ends, and whole tokens that tell only that something is skipped.
-use Rattle.std.specs.Prelude.{◌≡◌, ℕ, Bool, ◌+◌, true, List, [], ◌∷◌, ◌++◌, length, encode_utf8_all}
+-- Texts of comments and instructions up to their ends, and whole tokens that tell only that something is skipped.
+use Rattle.std.specs.Prelude.{◌≡◌, ℕ, Bool, ◌+◌, ◌&&◌, not, true, List, [], ◌∷◌, ◌++◌, length, encode_utf8_all}
 use Rattle.std.specs.List.{list_all}
 use Rattle.markup.specs.Ascii.{is_ascii}
-use Rattle.markup.specs.Token.{Token, token_bytes}
+use Rattle.markup.specs.Chars.{is_space}
+use Rattle.markup.specs.Token.{Token, is_comment, is_instruction_text, is_xml_word, token_bytes}
+use Rattle.markup.specs.PlainTags.{is_plain_name}
 use Rattle.markup.specs.Asides.{is_aside_in}
 use Rattle.markup.specs.inner.ScanRuns.{ended_of}
 use Rattle.markup.specs.inner.Contexts.{without_brackets}
 use Rattle.markup.specs.inner.Tokenizers.{behind_token}
+use Rattle.markup.specs.declared.classes.Passed.{Passed}
+use Rattle.markup.specs.declared.classes.Passed.TheVariants.{Comment, Instruction}
 use Rattle.markup.specs.declared.reader.Reader.{Reader}
 use Rattle.markup.specs.declared.scan.Ended.{Ended}
 use Rattle.markup.specs.declared.scan.Scan.TheVariants.{Begin}
@@ -15,6 +19,34 @@ use Rattle.markup.specs.declared.tokenizer.Tokenizer.{Tokenizer}
 -- the end of a comment (XML 1.0 §2.5)
 abbrev pub comment_end : List ℕ
 comment_end = 45 ∷ 45 ∷ 62 ∷ []
+
+-- that of an instruction (XML 1.0 §2.6)
+abbrev pub instruction_end : List ℕ
+instruction_end = 63 ∷ 62 ∷ []
+
+-- of either
+abbrev pub text_end : Passed → List ℕ
+text_end Comment = comment_end
+text_end Instruction = instruction_end
+
+-- the text of either
+abbrev pub is_text_of : Passed → List ℕ → Bool
+is_text_of Comment = is_comment
+is_text_of Instruction = is_instruction_text
+
+-- behind what its end begins with, this byte does not come in the text
+abbrev pub behind_mark : Passed → ℕ
+behind_mark Comment = 45
+behind_mark Instruction = 62
+
+-- what stands between a target and the end: nothing, or a text that begins with white space (XML 1.0 §2.6, PI)
+abbrev pub is_behind_target : List ℕ → Bool
+is_behind_target [] = true
+is_behind_target (c ∷ text) = is_space c && is_instruction_text (c ∷ text)
+
+-- a target that is a plain name (XML 1.0 §2.6, PITarget)
+abbrev pub is_plain_target : List ℕ → Bool
+is_plain_target target = is_plain_name target && not (is_xml_word target)
 
 -- The bytes are such a text, then its end, and then what stands behind.
 pub record IsTextEnded (is : List ℕ → Bool) (end bytes text after : List ℕ) : Type 0 where

@@ -1,4 +1,4 @@
-//! Comments and the ends of CDATA sections that a reader takes at once.
+//! Comments, instructions and the ends of CDATA sections that a reader takes at once.
 ghost use Rattle.std.specs.Prelude.{◌≡◌, ◌<◌, ◌≤◌, ◌^◌, ◌+◌, ◌∷◌, ◌++◌, ℕ, List, [], IfSome, IsSome, Some, None, length, take};
 ghost use Rattle.lexical_core.specs.Tree.{Skipped};
 ghost use Rattle.markup.specs.Asides.{MayTakeAsideUnder};
@@ -14,10 +14,11 @@ use super::{MarkError, Reader};
 use crate::asides::{Aside, aside_at};
 
 impl Reader {
-    /// Takes the comment or the beginning of a CDATA section that stands whole at the front of the piece, where an element
-    /// is open, and no token and no section; or the end of a section, where one is open (XML 1.0 §2.5, §2.7). It tells that
-    /// something is skipped at its place. Each such token is taken, of comments those in ASCII. It answers how many bytes
-    /// that are; where none is taken, and after an error, it answers 0: anything else is for `take`. It takes no memory.
+    /// Takes the comment, the instruction or the beginning of a CDATA section that stands whole at the front of the piece,
+    /// where an element is open, and no token and no section; or the end of a section, where one is open (XML 1.0 §2.5,
+    /// §2.6, §2.7). It tells that something is skipped at its place. Each such token is taken, of comments and instructions
+    /// those in ASCII. It answers how many bytes that are; where none is taken, and after an error, it answers 0: anything
+    /// else is for `take`. It takes no memory.
     pub fn take_aside(&mut self, piece: &[u8]) -> usize
         requires { reader_failure self.old ≡ None → bytes_taken self.old + length piece.now ≤ 2 ^ 40 }
         ensures none { result ≡ 0 → self.new ≡ self.old }

@@ -1,5 +1,5 @@
-//! Fronts of a piece that a checker takes: whole tags, comments, references and line ends, runs of characters, bytes inside
-//! tokens, single bytes.
+//! Fronts of a piece that a checker takes: whole tags, comments, instructions, references and line ends, runs of characters,
+//! bytes inside tokens, single bytes.
 ghost use Rattle.std.specs.Prelude.{◌≡◌, ◌<◌, ◌+◌, ◌≤◌, ◌^◌, ℕ, List, true, IfOk, Ok, length};
 ghost use Rattle.markup.specs.declared.reader.Reader.{Reader};
 ghost use Rattle.message_model.specs.Tables.{types_of};
@@ -17,10 +17,10 @@ use markup::{MarkError, StartTag};
 use message_model::{InstanceError, Model};
 use std::alloc::AllocError;
 
-/// Whether the piece begins as a comment or a CDATA section does, and no tag.
+/// Whether the piece begins as a comment, an instruction or a CDATA section does, and no tag.
 #[inline]
 fn begins_aside(piece: &[u8]) -> bool {
-    piece.len() > 1 && piece[1] == b'!'
+    piece.len() > 1 && (piece[1] == b'!' || piece[1] == b'?')
 }
 
 impl XmlChecker {
@@ -127,8 +127,8 @@ impl XmlChecker {
         self.take_slowly(model, piece)
     }
 
-    /// Takes the start tag, the comment, the end of a CDATA section, the reference or the line end that stands whole at the
-    /// front of the piece, if one does that the reader takes at once. Its first bytes say which is tried.
+    /// Takes the start tag, the comment, the instruction, the end of a CDATA section, the reference or the line end that stands
+    /// whole at the front of the piece, if one does that the reader takes at once. Its first bytes say which is tried.
     fn take_whole(&mut self, model: &Model, piece: &[u8]) -> Result<usize, InstanceError>
         requires some { 0 < length piece.now }
         requires room { xml_bytes_fed self.old + length piece.now ≤ 2 ^ 40 }
@@ -360,8 +360,8 @@ impl XmlChecker {
         Ok(tag.bytes)
     }
 
-    /// Takes the comment or the end of a CDATA section that stands whole at the front of the piece, if one does. It breaks
-    /// no rule, and nothing of it is kept.
+    /// Takes the comment, the instruction or the end of a CDATA section that stands whole at the front of the piece, if one
+    /// does. It breaks no rule, and nothing of it is kept.
     fn take_aside(&mut self, model: &Model, piece: &[u8]) -> usize
         requires room { xml_bytes_fed self.old + length piece.now ≤ 2 ^ 40 }
         requires made { IsXmlCheckerFor self.old model.now }
