@@ -43,6 +43,7 @@ pub mod LiteralRuns
 pub mod QualifiedNames
 pub mod StartScans
 pub mod NamesFound
+pub mod TagGaps
 pub mod StartsFound
 pub mod CharacterRuns
 mod ClosedBrackets

@@ -1,5 +1,5 @@
 -- A start tag with attributes that is found at the front of a piece.
-use Rattle.std.proofs.Common.{◌≡◌, ℕ, zero, suc, Bool, cond, true, false, ◌==◌, ◌&&◌, ◌+◌, ◌-◌, ◌<◌, ◌≤◌, List, [], ◌∷◌, ◌++◌, length, map, take, drop, Option, Some, None, refl, sym, ◌∙◌, ap, subst, append_assoc, append-nil, length-append, length-drop, arith, codes}
+use Rattle.std.proofs.Common.{◌≡◌, ℕ, Bool, true, false, ◌==◌, ◌&&◌, ◌+◌, ◌-◌, ◌<◌, ◌≤◌, List, [], ◌∷◌, ◌++◌, length, map, take, drop, Option, Some, None, refl, sym, ◌∙◌, ap, subst, append_assoc, append-nil, length-append, arith, codes}
 use Rattle.std.specs.Bool.{if◌then◌else◌}
 use Rattle.std.specs.List.{list_all, flat_map, prefix_len}
 use Rattle.std.specs.Str.{encode_utf8_all}
@@ -7,7 +7,7 @@ use Rattle.std.specs.Option.{IfSome}
 use Rattle.std.specs.Result.{IfOk}
 use Rattle.std.specs.Prelude.{Result, Ok, Err}
 use Rattle.std.specs.declared.alloc.AllocError.{AllocError}
-use Rattle.std.proofs.lemmas.Bool.{and_parts, and_from, both_ways, eqb-true}
+use Rattle.std.proofs.lemmas.Bool.{and_parts, and_from, eqb-true}
 use Rattle.std.proofs.lemmas.Bool.Decides.{nat_tests}
 use Rattle.std.proofs.lemmas.Grind.{flat_map-append}
 use Rattle.std.proofs.lemmas.List.{take-append-drop, take-append-le, length-take-le, map-append}
@@ -15,14 +15,14 @@ use Rattle.std.proofs.lemmas.List.Folds.{list_all-append}
 use Rattle.std.proofs.lemmas.Str.{encode_ascii, encodes-append}
 use Rattle.std.proofs.Math.Seq.{take-append_seam}
 use Rattle.markup.specs.Chars.{is_space, is_gap}
-use Rattle.markup.specs.Name.{is_name, name_text}
+use Rattle.markup.specs.Name.{name_text}
 use Rattle.markup.specs.Attribute.{Attribute, Literal, is_attribute, is_piece, value_chars, begins_lf, attribute_text}
 use Rattle.markup.specs.Token.{StartTag, Start, token_bytes}
 use Rattle.markup.specs.Marks.{tag_limit}
 use Rattle.markup.specs.Events.{given_attribute as given_by}
 use Rattle.markup.specs.PlainTags.{begins_plain, continues_plain, is_plain_name, mark_count, closing, slash_kind}
-use Rattle.markup.specs.PlainStarts.{is_plain_qualified, qualified_text, is_quote, is_literal_of}
-use Rattle.markup.specs.inner.WholeStarts.{is_empty_kind, IsNameAt, IsValueAt, IsAttributeAt, AreGiven, IsStartAt}
+use Rattle.markup.specs.PlainStarts.{is_plain_qualified, qualified_text, is_quote, is_literal_of, PlainAttribute, is_plain_attribute, plain_attribute_text}
+use Rattle.markup.specs.inner.WholeStarts.{is_empty_kind, past_spaces, IsNameAt, IsValueAt, IsGapAt, IsEqualsAt, IsAttributeAt, AreGiven, IsStartAt}
 use Rattle.markup.specs.declared.plain_tag.TagKind.{TagKind}
 use Rattle.markup.specs.declared.plain_tag.TagKind.TheVariants.{Start as StartKind, Empty as EmptyKind, End as EndKind}
 use Rattle.markup.specs.declared.start_tag.StartTag.{StartTag as TagStart}
@@ -30,9 +30,10 @@ use Rattle.markup.specs.inner.TagParts.{spelled_opening}
 use Rattle.markup.specs.declared.tag.Given.{Given}
 use Rattle.markup.specs.declared.tag.Opening.{Opening}
 use Rattle.markup.specs.declared.tag.Spelled.{Spelled}
-use Rattle.markup.proofs.AttributeLemmas.{attribute_then}
+use Rattle.markup.proofs.AttributeLemmas.{attribute_then, gap_all}
 use Rattle.markup.proofs.InsideRuns.{value_xml, value_ascii, value_not, space_is}
 use Rattle.markup.proofs.QualifiedNames.{name_of, name_written, qualified_is, qualified_encoded, qualified_says}
+use Rattle.markup.proofs.TagGaps.{front_all, front_spaces, spaces_apart, spaces_encoded}
 use Rattle.markup.proofs.TagScans.{name_found, kind_same, slashed_is}
 use Rattle.markup.proofs.DeclarationSound.{plain_text}
 
@@ -72,97 +73,114 @@ module _ (q : ℕ) where
 
 -- ---- an attribute
 
-abbrev attribute_of : Spelled → ℕ → List ℕ → Attribute
-attribute_of name quote value = record { gap = 32 ∷ []; name = name_of name; before = []; after = []; quote = quote; value = map Literal value }
-
-abbrev attribute_bytes : Spelled → ℕ → List ℕ → List ℕ
-attribute_bytes name quote value = 32 ∷ (qualified_text name ++ 61 ∷ quote ∷ (value ++ quote ∷ []))
-
-all_hold : (g a b c : Bool) → g ≡ true → a ≡ true → b ≡ true → c ≡ true → (g && a && true && true && b && c) ≡ true
-all_hold true a b c e f h k = rw (f, h, k) refl
-all_hold false a b c e f h k = absurd (both_ways false refl e)
-
-one_gap : is_gap (32 ∷ []) ≡ true
-unfolding is_space
-one_gap = refl
+abbrev attribute_of : PlainAttribute → Attribute
+attribute_of a = record { gap = a.gap; name = name_of a.name; before = a.before; after = a.after; quote = a.quote; value = map Literal a.value }
 
 quote_ascii : (q : ℕ) → is_quote q ≡ true → q < 128
 quote_ascii q h = grind (arith, nat_tests)
 
-module _ (name : Spelled) (q : ℕ) (value : List ℕ) (named : is_plain_qualified name ≡ true) (quoted : is_quote q ≡ true) (literal : list_all (is_literal_of q) value ≡ true) where
-  abbrev text : List ℕ
-  text = qualified_text name
+-- the facts on a plain attribute, each by its name
+pub record IsPlainAttribute (a : PlainAttribute) : Type 0 where
+  pub gap : is_gap a.gap ≡ true
+  pub named : is_plain_qualified a.name ≡ true
+  pub before : list_all is_space a.before ≡ true
+  pub after : list_all is_space a.after ≡ true
+  pub quoted : is_quote a.quote ≡ true
+  pub literal : list_all (is_literal_of a.quote) a.value ≡ true
 
-  attribute_is : is_attribute (attribute_of name q value) ≡ true
-  attribute_is = all_hold (is_gap (32 ∷ [])) (is_name (name_of name)) (is_quote q) (list_all (is_piece q) (map Literal value)) one_gap (qualified_is name named) quoted (literal_pieces q value literal)
+pub plain_facts : (a : PlainAttribute) → is_plain_attribute a ≡ true → IsPlainAttribute a
+plain_facts a h =
+    let k = and_parts _ _ h in let l = and_parts _ _ k.0 in let m = and_parts _ _ l.0 in let n = and_parts _ _ m.0 in let o = and_parts _ _ n.0 in
+    record { gap = o.0; named = o.1; before = n.1; after = m.1; quoted = l.1; literal = k.1 }
 
-  attribute_spelled : attribute_text (attribute_of name q value) ≡ attribute_bytes name q value
-  attribute_spelled = sym (append-nil (attribute_text (attribute_of name q value))) ∙ (attribute_then (attribute_of name q value) []
-      ∙ (ap (λ w. 32 ∷ (name_text (name_of name) ++ 61 ∷ q ∷ (w ++ q ∷ []))) (plain_text value) ∙ ap (λ w. 32 ∷ (w ++ 61 ∷ q ∷ (value ++ q ∷ []))) (name_written name)))
+pub regrouped : (g n b a v w : List ℕ) (q : ℕ) → (g ++ (n ++ (b ++ 61 ∷ (a ++ q ∷ (v ++ q ∷ []))))) ++ w ≡ g ++ (n ++ (b ++ 61 ∷ (a ++ q ∷ (v ++ q ∷ w))))
+regrouped g n b a v w q = simp append_assoc
 
-  attribute_encoded : encode_utf8_all (attribute_text (attribute_of name q value)) ≡ attribute_bytes name q value
-  attribute_encoded =
-      let ends : encode_utf8_all (q ∷ []) ≡ q ∷ [] = encoded_cons q [] [] (quote_ascii q quoted) refl in
-      let inside : encode_utf8_all (value ++ q ∷ []) ≡ value ++ q ∷ [] = encoded_append value (q ∷ []) value (q ∷ []) (literal_encoded q value literal) ends in
-      let quotes : encode_utf8_all (q ∷ (value ++ q ∷ [])) ≡ q ∷ (value ++ q ∷ []) = encoded_cons q (value ++ q ∷ []) (value ++ q ∷ []) (quote_ascii q quoted) inside in
-      let behind : encode_utf8_all (61 ∷ q ∷ (value ++ q ∷ [])) ≡ 61 ∷ q ∷ (value ++ q ∷ []) = encoded_cons 61 (q ∷ (value ++ q ∷ [])) (q ∷ (value ++ q ∷ [])) (omega arith) quotes in
-      let whole : encode_utf8_all (text ++ 61 ∷ q ∷ (value ++ q ∷ [])) ≡ text ++ 61 ∷ q ∷ (value ++ q ∷ []) = encoded_append text (61 ∷ q ∷ (value ++ q ∷ [])) text (61 ∷ q ∷ (value ++ q ∷ [])) (qualified_encoded name named) behind in
-      ap encode_utf8_all attribute_spelled ∙ encoded_cons 32 (text ++ 61 ∷ q ∷ (value ++ q ∷ [])) (text ++ 61 ∷ q ∷ (value ++ q ∷ [])) (omega arith) whole
+-- the attribute, and what is behind it
+pub plain_then : (a : PlainAttribute) (w : List ℕ) → plain_attribute_text a ++ w ≡ a.gap ++ (qualified_text a.name ++ (a.before ++ 61 ∷ (a.after ++ a.quote ∷ (a.value ++ a.quote ∷ w))))
+plain_then a w = regrouped a.gap (qualified_text a.name) a.before a.after a.value w a.quote
 
-  attribute_gives : given_by (attribute_of name q value) ≡ record { name = name; value = value }
+module _ (a : PlainAttribute) (plain : is_plain_attribute a ≡ true) where
+  k : IsPlainAttribute a
+  k = plain_facts a plain
+
+  attribute_is : is_attribute (attribute_of a) ≡ true
+  attribute_is = and_from _ _ (and_from _ _ (and_from _ _ (and_from _ _ (and_from _ _ k.gap (qualified_is a.name k.named)) k.before) k.after) k.quoted) (literal_pieces a.quote a.value k.literal)
+
+  attribute_spelled : attribute_text (attribute_of a) ≡ plain_attribute_text a
+  attribute_spelled = sym (append-nil (attribute_text (attribute_of a))) ∙ (attribute_then (attribute_of a) []
+      ∙ (ap (λ w. a.gap ++ (name_text (name_of a.name) ++ (a.before ++ 61 ∷ (a.after ++ a.quote ∷ (w ++ a.quote ∷ []))))) (plain_text a.value)
+      ∙ ap (λ w. a.gap ++ (w ++ (a.before ++ 61 ∷ (a.after ++ a.quote ∷ (a.value ++ a.quote ∷ []))))) (name_written a.name)))
+
+  abbrev quoted : List ℕ
+  quoted = a.quote ∷ (a.value ++ a.quote ∷ [])
+
+  quoted_encoded : encode_utf8_all quoted ≡ quoted
+  quoted_encoded =
+      let ends : encode_utf8_all (a.quote ∷ []) ≡ a.quote ∷ [] = encoded_cons a.quote [] [] (quote_ascii a.quote k.quoted) refl in
+      encoded_cons a.quote (a.value ++ a.quote ∷ []) (a.value ++ a.quote ∷ []) (quote_ascii a.quote k.quoted) (encoded_append a.value (a.quote ∷ []) a.value (a.quote ∷ []) (literal_encoded a.quote a.value k.literal) ends)
+
+  abbrev marked : List ℕ
+  marked = a.before ++ 61 ∷ (a.after ++ quoted)
+
+  marked_encoded : encode_utf8_all marked ≡ marked
+  marked_encoded = encoded_append a.before (61 ∷ (a.after ++ quoted)) a.before (61 ∷ (a.after ++ quoted)) (spaces_encoded a.before k.before)
+      (encoded_cons 61 (a.after ++ quoted) (a.after ++ quoted) (omega arith) (encoded_append a.after quoted a.after quoted (spaces_encoded a.after k.after) quoted_encoded))
+
+  attribute_encoded : encode_utf8_all (attribute_text (attribute_of a)) ≡ plain_attribute_text a
+  attribute_encoded = ap encode_utf8_all attribute_spelled
+      ∙ encoded_append a.gap (qualified_text a.name ++ marked) a.gap (qualified_text a.name ++ marked) (spaces_encoded a.gap (gap_all a.gap k.gap))
+      (encoded_append (qualified_text a.name) marked (qualified_text a.name) marked (qualified_encoded a.name k.named) marked_encoded)
+
+  attribute_gives : given_by (attribute_of a) ≡ record { name = a.name; value = a.value }
   attribute_gives =
-      ap (λ (x : Spelled). let g : Given = record { name = x; value = encode_utf8_all (value_chars (map Literal value)) } in g) (qualified_says name named)
-      ∙ ap (λ (x : List ℕ). let g : Given = record { name = name; value = x } in g) (ap encode_utf8_all (literal_chars q value literal) ∙ literal_encoded q value literal)
-
-  attribute_apart : (behind : List ℕ) → 32 ∷ (text ++ 61 ∷ q ∷ (value ++ q ∷ behind)) ≡ attribute_bytes name q value ++ behind
-  attribute_apart behind = ap (λ w. 32 ∷ w)
-      (ap (λ w. text ++ 61 ∷ q ∷ w) (sym (append_assoc value (q ∷ []) behind)) ∙ sym (append_assoc text (61 ∷ q ∷ (value ++ q ∷ [])) behind))
+      ap (λ (x : Spelled). let g : Given = record { name = x; value = encode_utf8_all (value_chars (map Literal a.value)) } in g) (qualified_says a.name k.named)
+      ∙ ap (λ (x : List ℕ). let g : Given = record { name = a.name; value = x } in g) (ap encode_utf8_all (literal_chars a.quote a.value k.literal) ∙ literal_encoded a.quote a.value k.literal)
 
 -- ---- attributes, one after another
 
 pub none_given : (bytes : List ℕ) → AreGiven bytes [] bytes
 none_given bytes = record { attributes = []; are = refl; spelled = refl; give = refl }
 
+found_gives : (bytes : List ℕ) (name : Spelled) (value behind : List ℕ) (s : IsAttributeAt bytes name value behind) → given_by (attribute_of s.attribute) ≡ record { name = name; value = value }
+found_gives bytes name value behind s = attribute_gives s.attribute s.is
+    ∙ (ap (λ (x : Spelled). let g : Given = record { name = x; value = s.attribute.value } in g) s.named ∙ ap (λ (x : List ℕ). let g : Given = record { name = name; value = x } in g) s.valued)
+
 pub more_given : (bytes rest : List ℕ) (name : Spelled) (value behind : List ℕ) (old new : List Given) → AreGiven bytes old rest → IsAttributeAt rest name value behind → new ≡ old ++ record { name = name; value = value } ∷ [] → AreGiven bytes new behind
 more_given bytes rest name value behind old new s a e =
-    let x : Attribute = attribute_of name a.quote value in
-    let one : encode_utf8_all (flat_map attribute_text (s.attributes ++ x ∷ [])) ≡ encode_utf8_all (flat_map attribute_text s.attributes) ++ attribute_bytes name a.quote value =
+    let x : Attribute = attribute_of a.attribute in
+    let written : List ℕ = plain_attribute_text a.attribute in
+    let inner : List ℕ = encode_utf8_all (flat_map attribute_text s.attributes) in
+    let one : encode_utf8_all (flat_map attribute_text (s.attributes ++ x ∷ [])) ≡ inner ++ written =
     ap encode_utf8_all (flat_map-append attribute_text s.attributes (x ∷ []) ∙ ap (λ w. flat_map attribute_text s.attributes ++ w) (append-nil (attribute_text x)))
-    ∙ encoded_append (flat_map attribute_text s.attributes) (attribute_text x) (encode_utf8_all (flat_map attribute_text s.attributes)) (attribute_bytes name a.quote value) refl (attribute_encoded name a.quote value a.named a.quoted a.literal) in
+    ∙ encoded_append (flat_map attribute_text s.attributes) (attribute_text x) inner written refl (attribute_encoded a.attribute a.is) in
     record {
       attributes = s.attributes ++ x ∷ [];
-      are = list_all-append is_attribute s.attributes (x ∷ []) ∙ and_from _ _ s.are (and_from _ _ (attribute_is name a.quote value a.named a.quoted a.literal) refl);
-      spelled = s.spelled ∙ (ap (λ w. encode_utf8_all (flat_map attribute_text s.attributes) ++ w) (a.spelled ∙ attribute_apart name a.quote value a.named a.quoted a.literal behind)
-          ∙ (sym (append_assoc (encode_utf8_all (flat_map attribute_text s.attributes)) (attribute_bytes name a.quote value) behind) ∙ ap (λ w. w ++ behind) (sym one)));
-      give = map-append given_by s.attributes (x ∷ []) ∙ (ap (λ w. w ++ given_by x ∷ []) s.give ∙ (ap (λ g. old ++ g ∷ []) (attribute_gives name a.quote value a.named a.quoted a.literal) ∙ sym e));
+      are = list_all-append is_attribute s.attributes (x ∷ []) ∙ and_from _ _ s.are (and_from _ _ (attribute_is a.attribute a.is) refl);
+      spelled = s.spelled ∙ (ap (λ w. inner ++ w) a.spelled ∙ (sym (append_assoc inner written behind) ∙ ap (λ w. w ++ behind) (sym one)));
+      give = map-append given_by s.attributes (x ∷ []) ∙ (ap (λ w. w ++ given_by x ∷ []) s.give ∙ (ap (λ g. old ++ g ∷ []) (found_gives rest name value behind a) ∙ sym e));
     }
 
 -- ---- a value and an attribute that are found
-
-take_literal : (q : ℕ) (xs : List ℕ) (n : ℕ) → n ≤ prefix_len (is_literal_of q) xs → list_all (is_literal_of q) (take n xs) ≡ true
-take_literal q xs zero h = refl
-take_literal q [] (suc n) h = refl
-take_literal q (x ∷ xs) (suc n) h = by (is_literal_of q x) refl h (λ k. take_literal q xs n k) where
-  by : (b : Bool) → is_literal_of q x ≡ b → suc n ≤ cond b (1 + prefix_len (is_literal_of q) xs) 0 → (n ≤ prefix_len (is_literal_of q) xs → list_all (is_literal_of q) (take n xs) ≡ true) → list_all (is_literal_of q) (x ∷ take n xs) ≡ true
-  by true e h more = and_from _ _ e (more (omega arith))
-  by false e h more = absurd (omega arith)
 
 pub value_found : (bytes inside value ended behind : List ℕ) (q last n : ℕ) → bytes ≡ q ∷ inside → is_quote q ≡ true → n ≤ prefix_len (is_literal_of q) inside → value ≡ take n inside → ended ≡ drop n inside → ended ≡ last ∷ behind → last ≡ q → IsValueAt bytes value behind
 value_found bytes inside value ended behind q last n e k c t d f l = record {
   quote = q;
   spelled = e ∙ ap (λ w. q ∷ w) (sym (take-append-drop n inside) ∙ (ap (λ w. w ++ drop n inside) (sym t) ∙ ap (λ w. value ++ w) (sym d ∙ (f ∙ ap (λ b. b ∷ behind) l))));
   quoted = k;
-  literal = subst (λ w. list_all (is_literal_of q) w ≡ true) (sym t) (take_literal q inside n c);
+  literal = subst (λ w. list_all (is_literal_of q) w ≡ true) (sym t) (front_all (is_literal_of q) inside n c);
 }
 
-pub attribute_found : (bytes named : List ℕ) (name : Spelled) (after quoted value behind : List ℕ) (gap mark : ℕ) → bytes ≡ gap ∷ named → gap ≡ 32 → IsNameAt named name after → after ≡ mark ∷ quoted → mark ≡ 61 → IsValueAt quoted value behind → IsAttributeAt bytes name value behind
-attribute_found bytes named name after quoted value behind gap mark e g n f m v = record {
-  quote = v.quote;
-  spelled = e ∙ (ap (λ b. b ∷ named) g ∙ ap (λ w. 32 ∷ w) (n.spelled ∙ ap (λ w. qualified_text name ++ w) (f ∙ (ap (λ b. b ∷ quoted) m ∙ ap (λ w. 61 ∷ w) v.spelled))));
-  quoted = v.quoted;
-  named = n.named;
-  literal = v.literal;
-}
+pub attribute_found : (bytes named : List ℕ) (name : Spelled) (after rest value behind : List ℕ) → IsGapAt bytes named → IsNameAt named name after → IsEqualsAt after rest → IsValueAt rest value behind → IsAttributeAt bytes name value behind
+attribute_found bytes named name after rest value behind g n m v =
+    let a : PlainAttribute = record { gap = g.gap; name = name; before = m.before; after = m.after; quote = v.quote; value = value } in
+    record {
+      attribute = a;
+      is = and_from _ _ (and_from _ _ (and_from _ _ (and_from _ _ (and_from _ _ g.is n.named) m.before_is) m.after_is) v.quoted) v.literal;
+      spelled = g.spelled ∙ (ap (λ w. g.gap ++ w) (n.spelled ∙ ap (λ w. qualified_text name ++ w) (m.spelled ∙ ap (λ w. m.before ++ 61 ∷ (m.after ++ w)) v.spelled)) ∙ sym (plain_then a behind));
+      named = refl;
+      valued = refl;
+    }
 
 -- a name that is found is plain
 pub name_is_plain : (b : ℕ) (bytes xs : List ℕ) (n : ℕ) → bytes ≡ b ∷ xs → begins_plain b ≡ true → n ≡ prefix_len continues_plain bytes → is_plain_name (take n bytes) ≡ true
@@ -189,14 +207,17 @@ closed_by (b ∷ after) kind h = by (b == 62) (b == 47) refl refl h where
 
 -- ---- the whole tag
 
-regroup : (name given ends : List ℕ) → codes "<" ++ name ++ given ++ [] ++ ends ≡ 60 ∷ (name ++ (given ++ ends))
-regroup name given ends = simp append_assoc
+regroup : (name given gap ends : List ℕ) → codes "<" ++ name ++ given ++ gap ++ ends ≡ 60 ∷ (name ++ (given ++ (gap ++ ends)))
+regroup name given gap ends = simp append_assoc
 
-module _ (front named : List ℕ) (name : Spelled) (behind last : List ℕ) (first count size : ℕ) (kind : TagKind) (given : List Given)
-    (front_is : front ≡ first ∷ named) (first_is : first ≡ 60) (at : IsNameAt named name behind) (count_is : count ≡ length named - length behind)
-    (are : AreGiven behind given (drop size behind)) (size_in : size ≤ length behind) (last_is : last ≡ drop size behind) (closes : closing last ≡ Some kind) (limited : length front ≤ tag_limit) where
+module _ (front named : List ℕ) (name : Spelled) (behind after last : List ℕ) (first size : ℕ) (kind : TagKind) (given : List Given)
+    (front_is : front ≡ first ∷ named) (first_is : first ≡ 60) (at : IsNameAt named name behind)
+    (are : AreGiven behind given (drop size behind)) (size_in : size ≤ length behind) (after_is : after ≡ drop size behind) (last_is : last ≡ past_spaces after) (closes : closing last ≡ Some kind) (limited : length front ≤ tag_limit) where
+  abbrev gap : List ℕ
+  gap = take (prefix_len is_space after) after
+
   abbrev start : StartTag
-  start = record { name = name_of name; attributes = are.attributes; gap = []; is_empty = is_empty_kind kind }
+  start = record { name = name_of name; attributes = are.attributes; gap = gap; is_empty = is_empty_kind kind }
 
   abbrev written : List ℕ
   written = qualified_text name
@@ -204,35 +225,41 @@ module _ (front named : List ℕ) (name : Spelled) (behind last : List ℕ) (fir
   abbrev inner : List ℕ
   inner = encode_utf8_all (flat_map attribute_text are.attributes)
 
+  abbrev ends : List ℕ
+  ends = gap ++ ending kind
+
   closed : (rest : List ℕ) × (last ≡ ending kind ++ rest) × (mark_count kind ≡ 1 + length (ending kind))
   closed = closed_by last kind closes
 
-  token_is : token_bytes (Start start) ≡ 60 ∷ (written ++ (inner ++ ending kind))
-  token_is = ap encode_utf8_all (regroup (name_text (name_of name)) (flat_map attribute_text are.attributes) (ending kind) ∙ ap (λ w. 60 ∷ (w ++ (flat_map attribute_text are.attributes ++ ending kind))) (name_written name))
-      ∙ encoded_cons 60 (written ++ (flat_map attribute_text are.attributes ++ ending kind)) (written ++ (inner ++ ending kind)) (omega arith) (encoded_append written (flat_map attribute_text are.attributes ++ ending kind) written (inner ++ ending kind) (qualified_encoded name at.named) (encoded_append (flat_map attribute_text are.attributes) (ending kind) inner (ending kind) refl (ending_encoded kind)))
+  ends_encoded : encode_utf8_all ends ≡ ends
+  ends_encoded = encoded_append gap (ending kind) gap (ending kind) (spaces_encoded gap (front_spaces after)) (ending_encoded kind)
+
+  token_is : token_bytes (Start start) ≡ 60 ∷ (written ++ (inner ++ ends))
+  token_is = ap encode_utf8_all (regroup (name_text (name_of name)) (flat_map attribute_text are.attributes) gap (ending kind) ∙ ap (λ w. 60 ∷ (w ++ (flat_map attribute_text are.attributes ++ ends))) (name_written name))
+      ∙ encoded_cons 60 (written ++ (flat_map attribute_text are.attributes ++ ends)) (written ++ (inner ++ ends)) (omega arith) (encoded_append written (flat_map attribute_text are.attributes ++ ends) written (inner ++ ends) (qualified_encoded name at.named) (encoded_append (flat_map attribute_text are.attributes) ends inner ends refl ends_encoded))
+
+  ends_spelled : drop size behind ≡ ends ++ closed.0
+  ends_spelled = sym after_is ∙ (spaces_apart after ∙ (ap (λ w. gap ++ w) (sym last_is ∙ closed.1) ∙ sym (append_assoc gap (ending kind) closed.0)))
 
   spelled_so : front ≡ token_bytes (Start start) ++ closed.0
   spelled_so = front_is ∙ (ap (λ b. b ∷ named) first_is ∙ (ap (λ w. 60 ∷ w)
-      (at.spelled ∙ (ap (λ w. written ++ w) (are.spelled ∙ ap (λ w. inner ++ w) (sym last_is ∙ closed.1))
-      ∙ (ap (λ w. written ++ w) (sym (append_assoc inner (ending kind) closed.0)) ∙ sym (append_assoc written (inner ++ ending kind) closed.0))))
+      (at.spelled ∙ (ap (λ w. written ++ w) (are.spelled ∙ ap (λ w. inner ++ w) ends_spelled)
+      ∙ (ap (λ w. written ++ w) (sym (append_assoc inner ends closed.0)) ∙ sym (append_assoc written (inner ++ ends) closed.0))))
       ∙ ap (λ w. w ++ closed.0) (sym token_is)))
 
-  name_size : length written ≡ count
-  name_size = omega (arith, count_is, ap length at.spelled, length-append written behind)
+  last_size : length last ≡ length (ending kind) + length closed.0
+  last_size = ap length closed.1 ∙ length-append (ending kind) closed.0
 
-  inner_size : length inner ≡ size
-  inner_size = omega (arith, ap length are.spelled, length-append inner (drop size behind), length-drop size behind, size_in)
+  size_is : length named - length last + mark_count kind ≡ length (token_bytes (Start start))
+  size_is = omega (arith, ap length front_is, ap length spelled_so, length-append (token_bytes (Start start)) closed.0, last_size, closed.2, ap length token_is, length-append written (inner ++ ends), length-append inner ends, length-append gap (ending kind))
 
-  size_is : count + size + mark_count kind ≡ length (token_bytes (Start start))
-  size_is = omega (arith, ap length token_is, length-append written (inner ++ ending kind), length-append inner (ending kind), name_size, inner_size, closed.2)
-
-  in_front : count + size + mark_count kind ≤ length front
+  in_front : length named - length last + mark_count kind ≤ length front
   in_front = omega (arith, size_is, ap length spelled_so, length-append (token_bytes (Start start)) closed.0)
 
-  pub start_found : IsStartAt front (record { name = name; given = given; is_empty = is_empty_kind kind }) (count + size + mark_count kind)
+  pub start_found : IsStartAt front (record { name = name; given = given; is_empty = is_empty_kind kind }) (length named - length last + mark_count kind)
   start_found = record {
     start = start;
-    is = and_from _ _ (and_from _ _ (qualified_is name at.named) are.are) refl;
+    is = and_from _ _ (and_from _ _ (qualified_is name at.named) are.are) (front_spaces after);
     spelled = ap (λ n. take n front) size_is ∙ (ap (take (length (token_bytes (Start start)))) spelled_so ∙ take-append_seam (token_bytes (Start start)) closed.0);
     says = ap (λ (x : Spelled). let t : Opening = record { name = x; given = map given_by are.attributes; is_empty = is_empty_kind kind } in t) (qualified_says name at.named)
         ∙ ap (λ (g : List Given). let t : Opening = record { name = name; given = g; is_empty = is_empty_kind kind } in t) are.give;

@@ -6,17 +6,19 @@ use Rattle.std.specs.Option.{IsSomeAnd}
 use Rattle.std.proofs.lemmas.Bool.{and_parts, both_ways}
 use Rattle.std.proofs.lemmas.Bool.Decides.{nat_tests}
 use Rattle.lexical_core.proofs.Lists.{same_first, same_rest}
-use Rattle.markup.specs.Marks.{begins_with}
-use Rattle.markup.specs.PlainTags.{mark_count, closing}
+use Rattle.markup.specs.Chars.{is_space}
+use Rattle.markup.specs.PlainTags.{begins_plain, mark_count, closing}
 use Rattle.markup.specs.PlainStarts.{is_plain_qualified, qualified_text, is_quote, is_literal_of, PlainAttribute, is_plain_attribute, plain_attribute_text, PlainStart, is_plain_start, start_end, plain_start_text}
-use Rattle.markup.specs.inner.WholeStarts.{goes_on_name, IsNameAt, IsValueAt, IsAttributeAt, AreGiven, AreLeft}
+use Rattle.markup.specs.inner.WholeStarts.{goes_on_name, past_spaces, IsNameAt, IsValueAt, IsGapAt, IsEqualsAt, IsAttributeAt, BeginsNone, AreGiven, AreLeft}
 use Rattle.markup.specs.declared.plain_tag.TagKind.{TagKind}
 use Rattle.markup.specs.declared.plain_tag.TagKind.TheVariants.{Start as StartKind, Empty as EmptyKind}
 use Rattle.markup.specs.declared.start_tag.StartTag.{StartTag}
 use Rattle.markup.specs.declared.tag.Given.{Given}
 use Rattle.markup.specs.declared.tag.Spelled.{Spelled}
 use Rattle.markup.proofs.NamesFound.{IsBehindName, behind_front, run_ends}
-use Rattle.markup.proofs.StartScans.{none_given, more_given}
+use Rattle.markup.proofs.AttributeLemmas.{gap_all}
+use Rattle.markup.proofs.StartScans.{none_given, more_given, plain_then, IsPlainAttribute, plain_facts}
+use Rattle.markup.proofs.TagGaps.{past_is, stops_at_quote, stops_at_end, stops_at_name, name_first, spaces_end_name, gap_ends_name}
 use Rattle.markup.proofs.TagScans.{kind_same, none_some}
 
 -- ---- a value
@@ -56,43 +58,57 @@ module _ (bytes inside value behind : List ℕ) (q : ℕ) (e : bytes ≡ q ∷ i
 
 -- ---- an attribute
 
-pub no_attribute : (bytes : List ℕ) (name : Spelled) (value behind : List ℕ) → IsAttributeAt bytes name value behind → length bytes ≡ 0 → ⊥
-no_attribute bytes name value behind s z = omega (arith, ap length s.spelled, z)
+-- What is left stands behind the white space at the front.
+abbrev pub IsBehindGap : List ℕ → List ℕ → Type 0
+IsBehindGap bytes left = (behind : List ℕ) → IsGapAt bytes behind → prefix_len is_space behind ≡ 0 → left ≡ behind
 
-module _ (bytes named : List ℕ) (name : Spelled) (value behind : List ℕ) (gap : ℕ) (e : bytes ≡ gap ∷ named) (s : IsAttributeAt bytes name value behind) where
-  abbrev quoted_so : List ℕ
-  quoted_so = s.quote ∷ (value ++ s.quote ∷ behind)
+-- and behind `=`
+abbrev pub IsBehindEquals : List ℕ → List ℕ → Type 0
+IsBehindEquals bytes left = (behind : List ℕ) → IsEqualsAt bytes behind → prefix_len is_space behind ≡ 0 → left ≡ behind
 
-  pub gap_is : gap ≡ 32
-  gap_is = same_first gap 32 named (qualified_text name ++ 61 ∷ quoted_so) (sym e ∙ s.spelled)
+module _ (bytes : List ℕ) (name : Spelled) (value behind : List ℕ) (s : IsAttributeAt bytes name value behind) where
+  abbrev pub a : PlainAttribute
+  a = s.attribute
 
-  pub name_follows : IsNameAt named name (61 ∷ quoted_so)
-  name_follows = record { spelled = same_rest gap 32 named (qualified_text name ++ 61 ∷ quoted_so) (sym e ∙ s.spelled); named = s.named }
+  k : IsPlainAttribute a
+  k = plain_facts a s.is
 
-  module _ (after : List ℕ) (a : IsBehindName named after) where
-    after_is : after ≡ 61 ∷ quoted_so
-    after_is = a name (61 ∷ quoted_so) name_follows refl
+  abbrev pub quoted_so : List ℕ
+  quoted_so = a.quote ∷ (a.value ++ a.quote ∷ behind)
 
-    pub mark_follows : length after ≡ 0 → ⊥
-    mark_follows z = omega (arith, ap length after_is, z)
+  abbrev pub marked_so : List ℕ
+  marked_so = a.before ++ 61 ∷ (a.after ++ quoted_so)
 
-    module _ (mark : ℕ) (quoted : List ℕ) (f : after ≡ mark ∷ quoted) where
-      pub mark_is : mark ≡ 61
-      mark_is = same_first mark 61 quoted quoted_so (sym f ∙ after_is)
+  abbrev pub named_so : List ℕ
+  named_so = qualified_text a.name ++ marked_so
 
-      pub value_follows : IsValueAt quoted value behind
-      value_follows = record { quote = s.quote; spelled = same_rest mark 61 quoted quoted_so (sym f ∙ after_is); quoted = s.quoted; literal = s.literal }
+  pub gap_follows : IsGapAt bytes named_so
+  gap_follows = record { gap = a.gap; spelled = s.spelled ∙ plain_then a behind; is = k.gap }
+
+  pub gap_stops : prefix_len is_space named_so ≡ 0
+  gap_stops = stops_at_name a.name marked_so k.named
+
+  pub name_stops : prefix_len goes_on_name marked_so ≡ 0
+  name_stops = spaces_end_name a.before (61 ∷ (a.after ++ quoted_so)) k.before refl
+
+  pub equals_stops : prefix_len is_space quoted_so ≡ 0
+  equals_stops = stops_at_quote a.quote (a.value ++ a.quote ∷ behind) k.quoted
+
+  module _ (named : List ℕ) (g : IsBehindGap bytes named) where
+    pub name_follows : IsNameAt named a.name marked_so
+    name_follows = record { spelled = g named_so gap_follows gap_stops; named = k.named }
+
+    module _ (after : List ℕ) (n : IsBehindName named after) where
+      pub equals_follows : IsEqualsAt after quoted_so
+      equals_follows = record { before = a.before; after = a.after; spelled = n a.name marked_so name_follows name_stops; before_is = k.before; after_is = k.after }
+
+      pub value_follows : (marked : List ℕ) → IsBehindEquals after marked → IsValueAt marked a.value behind
+      value_follows marked m = record { quote = a.quote; spelled = m quoted_so equals_follows equals_stops; quoted = k.quoted; literal = k.literal }
 
 -- ---- attributes, one after another
 
-attribute_apart : (a : PlainAttribute) (rest : List ℕ) → plain_attribute_text a ++ rest ≡ 32 ∷ (qualified_text a.name ++ 61 ∷ a.quote ∷ (a.value ++ a.quote ∷ rest))
-attribute_apart a rest = ap (λ w. 32 ∷ w) (append_assoc (qualified_text a.name) (61 ∷ a.quote ∷ (a.value ++ a.quote ∷ [])) rest ∙ ap (λ w. qualified_text a.name ++ 61 ∷ a.quote ∷ w) (append_assoc a.value (a.quote ∷ []) rest))
-
 attribute_here : (bytes rest : List ℕ) (a : PlainAttribute) → is_plain_attribute a ≡ true → bytes ≡ plain_attribute_text a ++ rest → IsAttributeAt bytes a.name a.value rest
-attribute_here bytes rest a p e =
-    let b = and_parts (is_plain_qualified a.name && is_quote a.quote) (list_all (is_literal_of a.quote) a.value) p in
-    let n = and_parts (is_plain_qualified a.name) (is_quote a.quote) b.0 in
-    record { quote = a.quote; spelled = e ∙ attribute_apart a rest; quoted = n.1; named = n.0; literal = b.1 }
+attribute_here bytes rest a p e = record { attribute = a; is = p; spelled = e; named = refl; valued = refl }
 
 texts_apart : (a : PlainAttribute) (others : List PlainAttribute) (last : List ℕ) → flat_map plain_attribute_text (a ∷ others) ++ last ≡ plain_attribute_text a ++ (flat_map plain_attribute_text others ++ last)
 texts_apart a others last = append_assoc (plain_attribute_text a) (flat_map plain_attribute_text others) last
@@ -104,12 +120,9 @@ first_here left last a others p e = attribute_here left (flat_map plain_attribut
 abbrev pub FirstIs : List ℕ → List ℕ → Type 0
 FirstIs left behind = (name : Spelled) (value rest : List ℕ) → IsAttributeAt left name value rest → behind ≡ rest
 
-pub begins_none : (last : List ℕ) (name : Spelled) (value behind : List ℕ) → begins_with 32 last ≡ false → IsAttributeAt last name value behind → ⊥
-begins_none last name value behind s a = both_ways true (ap (begins_with 32) (sym a.spelled) ∙ s) refl
-
-next_left : (others : List PlainAttribute) (left last : List ℕ) (name : Spelled) (value behind : List ℕ) → list_all is_plain_attribute others ≡ true → begins_with 32 last ≡ false → left ≡ flat_map plain_attribute_text others ++ last → IsAttributeAt left name value behind → FirstIs left behind
+next_left : (others : List PlainAttribute) (left last : List ℕ) (name : Spelled) (value behind : List ℕ) → list_all is_plain_attribute others ≡ true → BeginsNone last → left ≡ flat_map plain_attribute_text others ++ last → IsAttributeAt left name value behind → FirstIs left behind
     → (more : List PlainAttribute) × (list_all is_plain_attribute more ≡ true) × (behind ≡ flat_map plain_attribute_text more ++ last)
-next_left [] left last name value behind p s e a f = absurd (begins_none last name value behind s (subst (λ v. IsAttributeAt v name value behind) e a))
+next_left [] left last name value behind p s e a f = absurd (s name value behind (subst (λ v. IsAttributeAt v name value behind) e a))
 next_left (x ∷ more) left last name value behind p s e a f =
     (more, (and_parts (is_plain_attribute x) (list_all is_plain_attribute more) p).1, f x.name x.value (flat_map plain_attribute_text more ++ last) (first_here left last x more p e))
 
@@ -127,27 +140,48 @@ nothing_left (x ∷ more) left last p e n = absurd (n x.name x.value (flat_map p
 
 -- all of them are taken
 pub all_done : (bytes left last : List ℕ) (given : List Given) (attributes : List PlainAttribute) → AreGiven bytes given left × AreLeft bytes left → ((name : Spelled) (value behind : List ℕ) → IsAttributeAt left name value behind → ⊥)
-    → list_all is_plain_attribute attributes ≡ true → begins_with 32 last ≡ false → bytes ≡ flat_map plain_attribute_text attributes ++ last → length bytes - length left ≡ length (flat_map plain_attribute_text attributes)
+    → list_all is_plain_attribute attributes ≡ true → BeginsNone last → bytes ≡ flat_map plain_attribute_text attributes ++ last → length bytes - length left ≡ length (flat_map plain_attribute_text attributes)
 all_done bytes left last given attributes d n p s e =
     let o = d.1 attributes last p s e in
     omega (arith, ap length e, length-append (flat_map plain_attribute_text attributes) last, ap length (nothing_left o.0 left last o.1 o.2 n))
 
 -- ---- the whole tag
 
+-- what stands behind its attributes
+abbrev pub ends_of : PlainStart → List ℕ → List ℕ
+ends_of tag rest = tag.gap ++ (start_end tag.is_empty ++ rest)
+
 abbrev pub behind_name : PlainStart → List ℕ → List ℕ
-behind_name tag rest = flat_map plain_attribute_text tag.attributes ++ (start_end tag.is_empty ++ rest)
+behind_name tag rest = flat_map plain_attribute_text tag.attributes ++ ends_of tag rest
 
 abbrev kind_of : Bool → TagKind
 kind_of is_empty = if is_empty then EmptyKind else StartKind
 
-ends_name : (attributes : List PlainAttribute) (is_empty : Bool) (rest : List ℕ) → prefix_len goes_on_name (flat_map plain_attribute_text attributes ++ (start_end is_empty ++ rest)) ≡ 0
-ends_name [] true rest = refl
-ends_name [] false rest = refl
-ends_name (a ∷ more) is_empty rest = refl
+end_ends_name : (is_empty : Bool) (rest : List ℕ) → prefix_len goes_on_name (start_end is_empty ++ rest) ≡ 0
+end_ends_name true rest = refl
+end_ends_name false rest = refl
 
-pub ends_attributes : (is_empty : Bool) (rest : List ℕ) → begins_with 32 (start_end is_empty ++ rest) ≡ false
-ends_attributes true rest = refl
-ends_attributes false rest = refl
+ends_name : (attributes : List PlainAttribute) (rest : List ℕ) → list_all is_plain_attribute attributes ≡ true → prefix_len goes_on_name rest ≡ 0 → prefix_len goes_on_name (flat_map plain_attribute_text attributes ++ rest) ≡ 0
+ends_name [] rest p h = h
+ends_name (a ∷ more) rest p h =
+    let behind : List ℕ = flat_map plain_attribute_text more ++ rest in
+    ap (prefix_len goes_on_name) (texts_apart a more rest ∙ plain_then a behind)
+    ∙ gap_ends_name a.gap (qualified_text a.name ++ (a.before ++ 61 ∷ (a.after ++ a.quote ∷ (a.value ++ a.quote ∷ behind)))) (plain_facts a (and_parts (is_plain_attribute a) (list_all is_plain_attribute more) p).0).gap
+
+-- no name begins as a tag ends
+end_is_no_name : (is_empty : Bool) (rest behind : List ℕ) (name : Spelled) → is_plain_qualified name ≡ true → start_end is_empty ++ rest ≡ qualified_text name ++ behind → ⊥
+end_is_no_name is_empty rest behind name h e = let f = name_first name behind h in by is_empty f.0 f.1 f.2 (e ∙ f.3) where
+  by : (t : Bool) (b : ℕ) (more : List ℕ) → begins_plain b ≡ true → start_end t ++ rest ≡ b ∷ more → ⊥
+  by true b more p k = both_ways false refl (ap begins_plain (same_first 47 b (62 ∷ rest) more k) ∙ p)
+  by false b more p k = both_ways false refl (ap begins_plain (same_first 62 b rest more k) ∙ p)
+
+pub ends_attributes : (tag : PlainStart) (rest : List ℕ) → list_all is_space tag.gap ≡ true → BeginsNone (ends_of tag rest)
+ends_attributes tag rest h name value behind s =
+    let a : PlainAttribute = s.attribute in
+    let k : IsPlainAttribute a = plain_facts a s.is in
+    let here : past_spaces (ends_of tag rest) ≡ start_end tag.is_empty ++ rest = past_is (ends_of tag rest) tag.gap (start_end tag.is_empty ++ rest) refl h (stops_at_end tag.is_empty rest) in
+    let there : past_spaces (ends_of tag rest) ≡ named_so (ends_of tag rest) name value behind s = past_is (ends_of tag rest) a.gap (named_so (ends_of tag rest) name value behind s) (s.spelled ∙ plain_then a behind) (gap_all a.gap k.gap) (gap_stops (ends_of tag rest) name value behind s) in
+    end_is_no_name tag.is_empty rest (marked_so (ends_of tag rest) name value behind s) a.name k.named (sym here ∙ there)
 
 ends_start : (is_empty : Bool) (rest : List ℕ) → closing (start_end is_empty ++ rest) ≡ Some (kind_of is_empty)
 ends_start true rest = refl
@@ -167,43 +201,62 @@ module _ (front named rest : List ℕ) (first : ℕ) (tag : PlainStart) (plain :
   abbrev written : List ℕ
   written = qualified_text tag.name
 
+  abbrev ends : List ℕ
+  ends = tag.gap ++ start_end tag.is_empty
+
   pub start_opens : first ≡ 60
-  start_opens = same_first first 60 named ((written ++ (texts ++ start_end tag.is_empty)) ++ rest) (sym f ∙ e)
+  start_opens = same_first first 60 named ((written ++ (texts ++ ends)) ++ rest) (sym f ∙ e)
+
+  gap_is : list_all is_space tag.gap ≡ true
+  gap_is = (and_parts (is_plain_qualified tag.name && list_all is_plain_attribute tag.attributes) (list_all is_space tag.gap) plain).1
 
   parts : (is_plain_qualified tag.name ≡ true) × (list_all is_plain_attribute tag.attributes ≡ true)
-  parts = and_parts (is_plain_qualified tag.name) (list_all is_plain_attribute tag.attributes) plain
+  parts = and_parts (is_plain_qualified tag.name) (list_all is_plain_attribute tag.attributes) (and_parts (is_plain_qualified tag.name && list_all is_plain_attribute tag.attributes) (list_all is_space tag.gap) plain).0
 
   pub start_named : IsNameAt named tag.name (behind_name tag rest)
   start_named = record {
-    spelled = same_rest first 60 named ((written ++ (texts ++ start_end tag.is_empty)) ++ rest) (sym f ∙ e)
-        ∙ (append_assoc written (texts ++ start_end tag.is_empty) rest ∙ ap (λ w. written ++ w) (append_assoc texts (start_end tag.is_empty) rest));
+    spelled = same_rest first 60 named ((written ++ (texts ++ ends)) ++ rest) (sym f ∙ e)
+        ∙ (append_assoc written (texts ++ ends) rest ∙ ap (λ w. written ++ w) (append_assoc texts ends rest ∙ ap (λ w. texts ++ w) (append_assoc tag.gap (start_end tag.is_empty) rest)));
     named = parts.0;
   }
 
   pub start_ends : prefix_len goes_on_name (behind_name tag rest) ≡ 0
-  start_ends = ends_name tag.attributes tag.is_empty rest
+  start_ends = ends_name tag.attributes (ends_of tag rest) parts.1 (spaces_end_name tag.gap (start_end tag.is_empty ++ rest) gap_is (end_ends_name tag.is_empty rest))
 
   module _ (behind : List ℕ) (a : IsBehindName named behind) where
     pub behind_is : behind ≡ behind_name tag rest
     behind_is = a tag.name (behind_name tag rest) start_named start_ends
 
     -- from what is said of all that may be behind the name
-    pub attributes_size : (size : ℕ) → ((attributes : List PlainAttribute) (others : List ℕ) → list_all is_plain_attribute attributes ≡ true → begins_with 32 others ≡ false → behind ≡ flat_map plain_attribute_text attributes ++ others → size ≡ length (flat_map plain_attribute_text attributes))
+    pub attributes_size : (size : ℕ) → ((attributes : List PlainAttribute) (others : List ℕ) → list_all is_plain_attribute attributes ≡ true → BeginsNone others → behind ≡ flat_map plain_attribute_text attributes ++ others → size ≡ length (flat_map plain_attribute_text attributes))
         → size ≡ length texts
-    attributes_size size s = s tag.attributes (start_end tag.is_empty ++ rest) parts.1 (ends_attributes tag.is_empty rest) behind_is
+    attributes_size size s = s tag.attributes (ends_of tag rest) parts.1 (ends_attributes tag rest gap_is) behind_is
 
-    module _ (last : List ℕ) (size : ℕ) (l : last ≡ drop size behind) (size_is : size ≡ length texts) where
+    module _ (after last : List ℕ) (size : ℕ) (l : after ≡ drop size behind) (p : last ≡ past_spaces after) (size_is : size ≡ length texts) where
+      last_is : last ≡ start_end tag.is_empty ++ rest
+      last_is = p ∙ past_is after tag.gap (start_end tag.is_empty ++ rest) (behind_front behind texts (ends_of tag rest) after size behind_is size_is l) gap_is (stops_at_end tag.is_empty rest)
+
       closes : closing last ≡ Some (kind_of tag.is_empty)
-      closes = ap closing (behind_front behind texts (start_end tag.is_empty ++ rest) last size behind_is size_is l) ∙ ends_start tag.is_empty rest
+      closes = ap closing last_is ∙ ends_start tag.is_empty rest
 
       pub start_closes : closing last ≡ None → ⊥
       start_closes n = none_some (kind_of tag.is_empty) (sym n ∙ closes)
 
-      count_is : length named - length behind ≡ length written
-      count_is = omega (arith, ap length start_named.spelled, ap length behind_is, length-append written (behind_name tag rest))
-
-      pub start_size : (kind : TagKind) → closing last ≡ Some kind → length named - length behind + size + mark_count kind ≡ length (plain_start_text tag)
-      start_size kind k = omega (arith, count_is, size_is, ap mark_count (kind_same kind (kind_of tag.is_empty) (sym k ∙ closes)), end_size tag.is_empty, length-append written (texts ++ start_end tag.is_empty), length-append texts (start_end tag.is_empty))
+      pub start_size : (kind : TagKind) → closing last ≡ Some kind → length named - length last + mark_count kind ≡ length (plain_start_text tag)
+      start_size kind k =
+          omega (
+            arith,
+            ap length e,
+            ap length f,
+            length-append (plain_start_text tag) rest,
+            ap length last_is,
+            length-append (start_end tag.is_empty) rest,
+            ap mark_count (kind_same kind (kind_of tag.is_empty) (sym k ∙ closes)),
+            end_size tag.is_empty,
+            length-append written (texts ++ ends),
+            length-append texts ends,
+            length-append tag.gap (start_end tag.is_empty),
+          )
 
 -- ---- a front of the piece
 

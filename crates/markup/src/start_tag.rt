@@ -1,20 +1,22 @@
 //! Start tags that stand whole at the front of a piece of the input, as slices of it.
 ghost use Rattle.std.specs.Prelude.{◌≡◌, ◌<◌, ◌≤◌, ◌++◌, ℕ, List, [], length, take, drop, map, IfOk, OnOk, IfSome, IsSomeAnd, true, false};
 ghost use Rattle.std.specs.List.{list_all, flat_map, prefix_len};
-ghost use Rattle.markup.specs.Ascii.{space};
-ghost use Rattle.markup.specs.Marks.{tag_limit, begins_with};
+ghost use Rattle.markup.specs.Chars.{is_space};
+ghost use Rattle.markup.specs.Marks.{tag_limit};
 ghost use Rattle.markup.specs.PlainTags.{continues_plain, is_plain_name};
 ghost use Rattle.markup.specs.PlainStarts.{is_quote, PlainAttribute, is_plain_attribute, plain_attribute_text, PlainStart, is_plain_start, plain_start_text};
-ghost use Rattle.markup.specs.inner.WholeStarts.{named_by, goes_on_name, is_empty_kind, IsLocalAt, IsNameAt, IsValueAt, IsAttributeAt, AreGiven, IsStartAt};
+ghost use Rattle.markup.specs.inner.WholeStarts.{named_by, goes_on_name, is_empty_kind, past_spaces, IsLocalAt, IsNameAt, IsValueAt, IsGapAt, IsEqualsAt, IsAttributeAt, BeginsNone, AreGiven, IsStartAt};
 ghost use Rattle.markup.specs.inner.TagParts.{tag_given, spelled_opening};
 ghost use Rattle.markup.specs.declared.tag.Spelled.{Spelled};
 
 use crate::attributes::{TagAttribute, spelled};
+use crate::classes::Blank;
 use crate::inside::value_length;
 use crate::namespace::Namespace;
 use crate::plain_tag::{TagKind, begins_plain, closing, mark_count, name_length};
 use crate::tag::Spelled;
 use crate::tokenizer::TAG_LIMIT;
+use lexical_core::{ByteClass, run_length};
 use std::alloc::{AllocError, Global};
 
 /// How many attributes there is room for at once.
@@ -163,28 +165,78 @@ fn value_at<'a>(bytes: &'a [u8]) -> Option<ValueAt<'a>>
     Some(ValueAt { value, behind })
 }
 
-/// The attribute at the front, behind one space, where the parts of its name are plain and the bytes
-/// of its value stand for themselves.
+/// What is behind the white space at the front.
 #[inline]
-fn attribute_at<'a>(bytes: &'a [u8]) -> Option<AttributeAt<'a>>
-    ensures found { IfSome result (λ a. IsAttributeAt bytes.now (named_by a.prefix.now a.local.now) a.value.now a.behind.now) }
-    ensures all { (name : Spelled) (value behind : List ℕ) → IsAttributeAt bytes.now name value behind → IsSomeAnd result (λ a. a.behind.now ≡ behind) }
+fn behind_spaces<'a>(bytes: &'a [u8]) -> &'a [u8]
+    ensures { result.now ≡ past_spaces bytes.now }
 {
-    let Some((gap, named)) = bytes.split_first() else {
+    let Some((first, _)) = bytes.split_first() else {
+        return bytes;
+    };
+    if *first > b' ' {
+        return bytes;
+    }
+    behind_run(bytes)
+}
+
+/// The same, where some stands there.
+#[cold]
+#[inline(never)]
+fn behind_run<'a>(bytes: &'a [u8]) -> &'a [u8]
+    ensures { result.now ≡ past_spaces bytes.now }
+{
+    let (_, behind) = bytes.split_at(run_length(&Blank, bytes));
+    behind
+}
+
+/// What is behind the white space at the front, where some stands there.
+#[inline]
+fn behind_gap<'a>(bytes: &'a [u8]) -> Option<&'a [u8]>
+    ensures found { IfSome result (λ b. IsGapAt bytes.now b.now) }
+    ensures all { (behind : List ℕ) → IsGapAt bytes.now behind → prefix_len is_space behind ≡ 0 → IsSomeAnd result (λ b. b.now ≡ behind) }
+{
+    let Some((first, after)) = bytes.split_first() else {
         return None;
     };
-    if *gap != b' ' {
+    if !Blank.has(*first) {
         return None;
     }
-    let Some(name) = name_at(named) else {
-        return None;
-    };
-    let Some((mark, quoted)) = name.behind.split_first() else {
+    Some(behind_spaces(after))
+}
+
+/// What is behind the `=` at the front, round which white space may stand (XML 1.0 §2.8, Eq).
+#[inline]
+fn behind_equals<'a>(bytes: &'a [u8]) -> Option<&'a [u8]>
+    ensures found { IfSome result (λ b. IsEqualsAt bytes.now b.now) }
+    ensures all { (behind : List ℕ) → IsEqualsAt bytes.now behind → prefix_len is_space behind ≡ 0 → IsSomeAnd result (λ b. b.now ≡ behind) }
+{
+    let marked = behind_spaces(bytes);
+    let Some((mark, after)) = marked.split_first() else {
         return None;
     };
     if *mark != b'=' {
         return None;
     }
+    let behind = behind_spaces(after);
+    Some(behind)
+}
+
+/// The attribute at the front, behind white space, where the parts of its name are plain and the bytes of its
+/// value stand for themselves.
+#[inline]
+fn attribute_at<'a>(bytes: &'a [u8]) -> Option<AttributeAt<'a>>
+    ensures found { IfSome result (λ a. IsAttributeAt bytes.now (named_by a.prefix.now a.local.now) a.value.now a.behind.now) }
+    ensures all { (name : Spelled) (value behind : List ℕ) → IsAttributeAt bytes.now name value behind → IsSomeAnd result (λ a. a.behind.now ≡ behind) }
+{
+    let Some(named) = behind_gap(bytes) else {
+        return None;
+    };
+    let Some(name) = name_at(named) else {
+        return None;
+    };
+    let Some(quoted) = behind_equals(name.behind) else {
+        return None;
+    };
     let Some(ValueAt { value, behind }) = value_at(quoted) else {
         return None;
     };
@@ -196,14 +248,19 @@ fn attribute_at<'a>(bytes: &'a [u8]) -> Option<AttributeAt<'a>>
     })
 }
 
-/// Makes room for as many attributes as most tags have, where one stands at the front.
+/// Makes room for as many attributes as most tags have, where one stands at the front: behind the white space of
+/// `<a />` there is none.
 #[inline]
 fn make_room(bytes: &[u8], found: &mut Vec<TagAttribute<'_>>) -> Result<(), AllocError>
     ensures { OnOk result (found.new.items ≡ found.old.items) }
 {
-    match bytes.first() {
-        Some(b' ') => found.reserve(USUAL),
-        _ => Ok(()),
+    let Some(named) = behind_gap(bytes) else {
+        return Ok(());
+    };
+    match named.first() {
+        Some(b'/') => Ok(()),
+        Some(b'>') => Ok(()),
+        _ => found.reserve(USUAL),
     }
 }
 
@@ -215,7 +272,7 @@ fn attributes_at<'a>(
     requires { found.old.items ≡ [] }
     ensures within { IfOk result (λ n. n ≤ length bytes.now) }
     ensures are { IfOk result (λ n. AreGiven bytes.now (map tag_given found.new.items) (drop n bytes.now)) }
-    ensures all { (attributes : List PlainAttribute) (last : List ℕ) → list_all is_plain_attribute attributes ≡ true → begins_with space last ≡ false → bytes.now ≡ flat_map plain_attribute_text attributes ++ last →
+    ensures all { (attributes : List PlainAttribute) (last : List ℕ) → list_all is_plain_attribute attributes ≡ true → BeginsNone last → bytes.now ≡ flat_map plain_attribute_text attributes ++ last →
         IfOk result (λ n. n ≡ length (flat_map plain_attribute_text attributes)) }
 {
     make_room(bytes, found)?;
@@ -253,7 +310,8 @@ fn start_in<'a>(front: &'a [u8], alloc: Global) -> Result<Option<StartTag<'a>>, 
     };
     let mut attributes = Vec::new(alloc);
     let size = attributes_at(name.behind, &mut attributes)?;
-    let (_, last) = name.behind.split_at(size);
+    let (_, after) = name.behind.split_at(size);
+    let last = behind_spaces(after);
     let Some(kind) = closing(last) else {
         return Ok(None);
     };
@@ -264,7 +322,7 @@ fn start_in<'a>(front: &'a [u8], alloc: Global) -> Result<Option<StartTag<'a>>, 
         name: name.local,
         attributes,
         is_empty: is_empty_kind(kind),
-        bytes: named.len() - name.behind.len() + size + mark_count(kind),
+        bytes: named.len() - last.len() + mark_count(kind),
     }))
 }
 
@@ -282,9 +340,9 @@ fn within_limit(count: usize) -> usize
     }
 }
 
-/// The start tag that stands whole at the front of the piece, where the parts of its names are plain, its
-/// attributes stand behind one space each, and the bytes of their values stand for themselves. Its names are not
-/// expanded, and its declarations are among its attributes, which are in the order of the tag.
+/// The start tag that stands whole at the front of the piece, where the parts of its names are plain and the bytes
+/// of its values stand for themselves. Its names are not expanded, and its declarations are among its attributes,
+/// which are in the order of the tag.
 pub(crate) fn start_at<'a>(
     piece: &'a [u8],
     alloc: Global,

@@ -1,7 +1,7 @@
 -- Texts of comments and instructions up to their ends, and whole tokens that tell only that something is skipped.
 use Rattle.std.specs.Prelude.{◌≡◌, ℕ, Bool, ◌+◌, ◌&&◌, not, true, List, [], ◌∷◌, ◌++◌, length, encode_utf8_all}
 use Rattle.std.specs.List.{list_all}
-use Rattle.markup.specs.Ascii.{is_ascii}
+use Rattle.markup.specs.Ascii.{is_ascii, hyphen_minus, greater_than, question_mark}
 use Rattle.markup.specs.Chars.{is_space}
 use Rattle.markup.specs.Token.{Token, is_comment, is_instruction_text, is_xml_word, token_bytes}
 use Rattle.markup.specs.PlainTags.{is_plain_name}
@@ -18,11 +18,11 @@ use Rattle.markup.specs.declared.tokenizer.Tokenizer.{Tokenizer}
 
 -- the end of a comment (XML 1.0 §2.5)
 abbrev pub comment_end : List ℕ
-comment_end = 45 ∷ 45 ∷ 62 ∷ []
+comment_end = hyphen_minus ∷ hyphen_minus ∷ greater_than ∷ []
 
 -- that of an instruction (XML 1.0 §2.6)
 abbrev pub instruction_end : List ℕ
-instruction_end = 63 ∷ 62 ∷ []
+instruction_end = question_mark ∷ greater_than ∷ []
 
 -- of either
 abbrev pub text_end : Passed → List ℕ
@@ -36,8 +36,8 @@ is_text_of Instruction = is_instruction_text
 
 -- behind what its end begins with, this byte does not come in the text
 abbrev pub behind_mark : Passed → ℕ
-behind_mark Comment = 45
-behind_mark Instruction = 62
+behind_mark Comment = hyphen_minus
+behind_mark Instruction = greater_than
 
 -- what stands between a target and the end: nothing, or a text that begins with white space (XML 1.0 §2.6, PI)
 abbrev pub is_behind_target : List ℕ → Bool

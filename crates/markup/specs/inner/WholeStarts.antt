@@ -1,9 +1,11 @@
--- Start tags that a reader takes whole with their attributes: names of ASCII letters, digits, `-`, `.` and `_`, with or without a prefix, one space before each attribute, and values of ASCII that stand for themselves (XML 1.0 §3.1).
-use Rattle.std.specs.Prelude.{◌≡◌, ℕ, Bool, ◌==◌, ◌||◌, ◌<◌, ◌≤◌, true, false, List, ◌∷◌, ◌++◌, length, take, map, encode_utf8_all}
-use Rattle.std.specs.List.{list_all, flat_map}
+-- Start tags that a reader takes whole with their attributes: names of ASCII letters, digits, `-`, `.` and `_`, with or without a prefix, and values of ASCII that stand for themselves (XML 1.0 §3.1).
+use Rattle.std.specs.Prelude.{◌≡◌, ℕ, Bool, ◌==◌, ◌||◌, ◌<◌, ◌≤◌, true, false, List, ◌∷◌, ◌++◌, length, take, drop, map, encode_utf8_all}
+use Rattle.std.specs.List.{list_all, flat_map, prefix_len}
+use Rattle.markup.specs.Ascii.{equals_sign}
+use Rattle.markup.specs.Chars.{is_space, is_gap}
 use Rattle.markup.specs.Attribute.{Attribute, is_attribute, attribute_text}
 use Rattle.markup.specs.Token.{StartTag, Start, is_start_tag, token_bytes}
-use Rattle.markup.specs.Marks.{tag_limit, begins_with}
+use Rattle.markup.specs.Marks.{tag_limit}
 use Rattle.markup.specs.Events.{opening}
 use Rattle.markup.specs.Events.{given_attribute as given_by}
 use Rattle.markup.specs.PlainTags.{continues_plain, is_plain_name}
@@ -39,13 +41,35 @@ pub record IsValueAt (bytes value behind : List ℕ) : Type 0 where
   pub quoted : is_quote quote ≡ true
   pub literal : list_all (is_literal_of quote) value ≡ true
 
--- The bytes begin with a space, a name whose parts are plain, `=` and a value in quotes whose bytes stand for themselves.
+-- what is behind the white space at the front
+abbrev pub past_spaces : List ℕ → List ℕ
+past_spaces bytes = drop (prefix_len is_space bytes) bytes
+
+-- The bytes begin with white space that may not be left out.
+pub record IsGapAt (bytes behind : List ℕ) : Type 0 where
+  pub gap : List ℕ
+  pub spelled : bytes ≡ gap ++ behind
+  pub is : is_gap gap ≡ true
+
+-- The bytes begin with `=`, round which white space may stand.
+pub record IsEqualsAt (bytes behind : List ℕ) : Type 0 where
+  pub before : List ℕ
+  pub after : List ℕ
+  pub spelled : bytes ≡ before ++ equals_sign ∷ (after ++ behind)
+  pub before_is : list_all is_space before ≡ true
+  pub after_is : list_all is_space after ≡ true
+
+-- The bytes begin with a plain attribute of this name and this value.
 pub record IsAttributeAt (bytes : List ℕ) (name : Spelled) (value behind : List ℕ) : Type 0 where
-  pub quote : ℕ
-  pub spelled : bytes ≡ 32 ∷ (qualified_text name ++ 61 ∷ quote ∷ (value ++ quote ∷ behind))
-  pub quoted : is_quote quote ≡ true
-  pub named : is_plain_qualified name ≡ true
-  pub literal : list_all (is_literal_of quote) value ≡ true
+  pub attribute : PlainAttribute
+  pub is : is_plain_attribute attribute ≡ true
+  pub spelled : bytes ≡ plain_attribute_text attribute ++ behind
+  pub named : attribute.name ≡ name
+  pub valued : attribute.value ≡ value
+
+-- They begin with none.
+abbrev pub BeginsNone : List ℕ → Type 0
+BeginsNone bytes = (name : Spelled) (value behind : List ℕ) → IsAttributeAt bytes name value behind → ⊥
 
 -- The bytes begin with attributes that give this, and then the rest.
 pub record AreGiven (bytes : List ℕ) (given : List Given) (rest : List ℕ) : Type 0 where
@@ -54,9 +78,9 @@ pub record AreGiven (bytes : List ℕ) (given : List Given) (rest : List ℕ) : 
   pub spelled : bytes ≡ encode_utf8_all (flat_map attribute_text attributes) ++ rest
   pub give : map given_by attributes ≡ given
 
--- Where the bytes are plain attributes, behind which no space follows, what is left is the last of these.
+-- Where the bytes are plain attributes, behind which no other follows, what is left is the last of these.
 abbrev pub AreLeft : List ℕ → List ℕ → Type 0
-AreLeft bytes left = (attributes : List PlainAttribute) (last : List ℕ) → list_all is_plain_attribute attributes ≡ true → begins_with 32 last ≡ false → bytes ≡ flat_map plain_attribute_text attributes ++ last
+AreLeft bytes left = (attributes : List PlainAttribute) (last : List ℕ) → list_all is_plain_attribute attributes ≡ true → BeginsNone last → bytes ≡ flat_map plain_attribute_text attributes ++ last
     → (others : List PlainAttribute) × (list_all is_plain_attribute others ≡ true) × (left ≡ flat_map plain_attribute_text others ++ last)
 
 -- it is the tag of an empty element

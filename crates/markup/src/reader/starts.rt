@@ -19,13 +19,14 @@ use std::alloc::AllocError;
 impl Reader {
     /// Takes the start tag that stands whole at the front of the piece, where no token is open: with names of
     /// ASCII letters, digits, `-`, `.` and `_`, with or without a prefix of such characters (Namespaces in XML 1.0
-    /// §4), attributes and declarations behind one space each, and values of ASCII without references, tabs and line
-    /// ends, in either kind of quotes (XML 1.0 §3.1). Its events are those that `take` tells. It answers `None` where
-    /// no such tag is taken; any other token is for `take`. Each such tag is taken that stands behind a token other
-    /// than the byte order mark, in no CDATA section, and has at most 1,048,576 bytes. It takes one block of memory
-    /// for all attributes and declarations, which grows with their number, and none where there are none; what the
-    /// reader keeps of a declaration while the element is open is its own. A fault of the tag is told as `take` tells
-    /// it with the tag's last byte. Where there is no memory, and after an error, it answers as `take` does.
+    /// §4), white space wherever a start tag has it (XML 1.0 §3.1, STag, EmptyElemTag, Attribute), and values of ASCII
+    /// without references, tabs and line ends, in either kind of quotes. Its events are those that `take` tells. It
+    /// answers `None` where no such tag is taken; any other token is for `take`. Each such tag is taken that stands
+    /// behind a token other than the byte order mark, in no CDATA section, and has at most 1,048,576 bytes. It takes
+    /// one block of memory for all attributes and declarations, which grows with their number, and none where there
+    /// are none; what the reader keeps of a declaration while the element is open is its own. A fault of the tag is
+    /// told as `take` tells it with the tag's last byte. Where there is no memory, and after an error, it answers as
+    /// `take` does.
     pub fn take_start_tag<'a>(&mut self, piece: &'a [u8]) -> Result<Option<StartTag<'a>>, MarkError>
         requires { reader_failure self.old ≡ None → bytes_taken self.old + length piece.now ≤ 2 ^ 40 }
         ensures none { IfOk result (λ o. o ≡ None → self.new ≡ self.old) }

@@ -19,9 +19,29 @@ const TWO: &str = "<a xmlns:p='u' xmlns:q='u'>";
 
 /// What was taken, pieces behind it, how many bytes the start tag has that is taken at their front, and what is
 /// told of it.
-static STARTS: [(&str, &str, usize, &[Told]); 21] = [
+static STARTS: [(&str, &str, usize, &[Told]); 26] = [
     ("<a>", "<b>", 3, &[Start(("", "b"), &[])]),
     ("<a>", "<b/>", 4, &[Start(("", "b"), &[]), End(("", "b"))]),
+    ("<a>", "<b />", 5, &[Start(("", "b"), &[]), End(("", "b"))]),
+    ("<a>", "<b\n>", 4, &[Start(("", "b"), &[])]),
+    (
+        "<a>",
+        "<b c = \"d\"/>",
+        12,
+        &[Start(("", "b"), &[(("", "c"), "d")]), End(("", "b"))],
+    ),
+    (
+        "<a>",
+        "<b\r\n    c='d'\t e='f' >",
+        22,
+        &[Start(("", "b"), &[(("", "c"), "d"), (("", "e"), "f")])],
+    ),
+    (
+        "<a>",
+        "<b c\t=\n'd'\r\n/>",
+        14,
+        &[Start(("", "b"), &[(("", "c"), "d")]), End(("", "b"))],
+    ),
     (
         "<a>",
         "<b c=\"d\">e",
@@ -141,9 +161,9 @@ static STARTS: [(&str, &str, usize, &[Told]); 21] = [
 /// Pieces behind `<a>` at whose front no start tag is taken: none is whole there, or it is for `take`.
 static OTHERS: [&str; 15] = [
     "<b c='d'",
-    "<b c='d' >",
-    "<b  c='d'>",
-    "<b c ='d'>",
+    "<b c='d' ",
+    "<b c='d'e='f'>",
+    "<b / >",
     "<p:q:b>",
     "<:b>",
     "<p:>",
