@@ -1,5 +1,7 @@
 //! The worked texts: their faults and events; hostile texts, which are answered as well.
+mod cuts;
 mod long;
+mod pieces;
 mod runs;
 mod starts;
 
@@ -17,6 +19,8 @@ enum Verdict {
     Whole,
     At(Rule, u64),
     Memory,
+    /// Events are told that are others than `take` alone tells.
+    Otherwise,
     /// More bytes than a reader takes.
     TooLong,
 }

@@ -2,7 +2,8 @@
 ghost use Rattle.std.specs.Prelude.{◌≤◌};
 ghost use Rattle.markup.specs.Reading.{bytes_taken};
 
-use super::runs::{behind, take_start};
+use super::pieces::take_start;
+use super::runs::behind;
 use super::{Told, Verdict, is_told};
 use Told::{End, Start};
 use Verdict::At;
@@ -10,6 +11,7 @@ use lexical_core::Rule;
 use lexical_core::Rule::{BadPrefix, DuplicateAttribute};
 use markup::{Events, Reader};
 use std::alloc::Global;
+use std::process::Abort;
 
 /// The namespace that the prefix `xml` has.
 const XML: &str = "http://www.w3.org/XML/1998/namespace";
@@ -186,37 +188,43 @@ static REFUSED: [(&str, &str, Rule); 5] = [
     (TWO, "<b r:c=''>", BadPrefix),
 ];
 
+/// Of the piece behind the front this start tag is taken, or it is refused so, and these events are told.
+fn check_start(
+    rt: &impl Abort,
+    alloc: Global,
+    front: &str,
+    piece: &str,
+    expected: Result<usize, Verdict>,
+    events: &[Told],
+) {
+    let mut out = Events::new(alloc);
+    let found = start_behind(alloc, front, piece, &mut out);
+    assert!(rt; found == expected, "{front}{piece}: {found:?}");
+    assert!(rt;
+        are_told(&out, front.len() as u64, events),
+        "{front}{piece}"
+    );
+}
+
 #[test]
 fn whole_starts(rt: HostRuntime) {
     for (front, piece, bytes, events) in &STARTS {
-        let mut out = Events::new(rt.alloc());
-        let found = start_behind(rt.alloc(), front, piece, &mut out);
-        assert!(rt; found == Ok(*bytes), "{front}{piece}: {found:?}");
-        assert!(rt;
-            are_told(&out, front.len() as u64, events),
-            "{front}{piece}"
-        );
+        check_start(&rt, rt.alloc(), front, piece, Ok(*bytes), events);
     }
 }
 
 #[test]
 fn other_starts(rt: HostRuntime) {
     for piece in &OTHERS {
-        let mut out = Events::new(rt.alloc());
-        let found = start_behind(rt.alloc(), "<a>", piece, &mut out);
-        assert!(rt; found == Ok(0), "{piece}: {found:?}");
-        assert!(rt; out.is_empty(), "{piece}");
+        check_start(&rt, rt.alloc(), "<a>", piece, Ok(0), &[]);
     }
 }
 
 #[test]
 fn refused_starts(rt: HostRuntime) {
     for (front, piece, rule) in &REFUSED {
-        let mut out = Events::new(rt.alloc());
-        let found = start_behind(rt.alloc(), front, piece, &mut out);
-        let expected = At(*rule, front.len() as u64);
-        assert!(rt; found == Err(expected), "{front}{piece}: {found:?}");
-        assert!(rt; out.is_empty(), "{front}{piece}");
+        let expected = Err(At(*rule, front.len() as u64));
+        check_start(&rt, rt.alloc(), front, piece, expected, &[]);
     }
 }
 
