@@ -1,5 +1,5 @@
 -- The classes of characters that do not meet.
-use Rattle.std.proofs.Common.{◌≡◌, ◌↔◌, ℕ, Bool, true, false, ◌||◌, ◌==◌, List, [], ◌∷◌, length, ◌≤◌, ◌⊎◌, inl, inr, refl, sym, arith}
+use Rattle.std.proofs.Common.{◌≡◌, ◌↔◌, ℕ, Bool, true, false, ◌||◌, ◌==◌, List, [], ◌∷◌, length, ◌<◌, ◌≤◌, ◌⊎◌, inl, inr, refl, sym, arith}
 use Rattle.std.specs.Char.{is_digit, to_ascii_lowercase, IsScalar, encode_utf8}
 use Rattle.std.specs.Prelude.{None}
 use Rattle.std.specs.Int.{is_in_range}
@@ -70,6 +70,10 @@ equals_no_name = refl
 pub equals_no_space : is_space 61 ≡ false
 unfolding is_space
 equals_no_space = refl
+
+pub space_ascii : (c : ℕ) → is_space c ≡ true → c < 128
+unfolding is_space
+space_ascii c h = grind (arith, nat_tests)
 
 pub quote_no_space : (q : ℕ) → (q == 34 || q == 39) ≡ true → is_space q ≡ false
 unfolding is_space

@@ -3,7 +3,7 @@ use Rattle.std.proofs.Common.{◌≡◌, ℕ, true, false, cond, not, ◌+◌, �
 use Rattle.std.specs.Char.{encode_utf8}
 use Rattle.std.specs.Str.{encode_utf8_all}
 use Rattle.std.specs.List.{prefix_len}
-use Rattle.std.proofs.lemmas.Bool.{and_parts, and_from, both_ways, not-true}
+use Rattle.std.proofs.lemmas.Bool.{and_parts, and_from, not-true}
 use Rattle.std.proofs.lemmas.Bool.Decides.{nat_tests}
 use Rattle.std.proofs.lemmas.Str.{encode_ascii, encode_same, encodes-append}
 use Rattle.std.proofs.Math.Seq.{take-append_seam}
@@ -12,17 +12,14 @@ use Rattle.markup.specs.PlainTags.{continues_plain, is_plain_name}
 use Rattle.markup.specs.Token.{Instruction, is_instruction, is_instruction_text, is_xml_word, token_bytes}
 use Rattle.markup.specs.inner.AsideTexts.{instruction_end, is_behind_target, is_plain_target, IsTextEnded, IsEndedTextAt, IsAsideAt}
 use Rattle.markup.specs.declared.scan.Ended.TheVariants.{Passed}
+use Rattle.markup.proofs.CharLemmas.{space_ascii}
 use Rattle.markup.proofs.PlainTagLemmas.{plain_is_part, plain_encoded}
-use Rattle.markup.proofs.NamesFound.{name_size, behind_front}
+use Rattle.markup.proofs.NamesFound.{some_name, name_size, behind_front}
 
 -- ---- the target
 
 pub target_found : (piece target : List ℕ) (n : ℕ) → target ≡ take n piece → is_plain_name (take n piece) ≡ true → is_xml_word target ≡ false → is_plain_target (take n piece) ≡ true
 target_found piece target n t p w = and_from _ _ p (ap not (ap is_xml_word (sym t) ∙ w))
-
-some_name : (name : List ℕ) → is_plain_name name ≡ true → 0 < length name
-some_name [] p = absurd (both_ways false refl p)
-some_name (b ∷ cs) p = omega arith
 
 -- the target at the front is the name that is found there, and not the word
 pub target_is : (piece target behind found : List ℕ) (n : ℕ) → is_plain_target target ≡ true → piece ≡ target ++ behind → prefix_len continues_plain behind ≡ 0 → n ≡ prefix_len continues_plain piece → found ≡ take n piece → (n ≡ length target) × (0 < n) × (is_xml_word found ≡ false)
@@ -32,10 +29,6 @@ target_is piece target behind found n p e s c t =
     (k, omega (arith, k, some_name target a.0), ap is_xml_word (t ∙ (ap (λ m. take m piece) k ∙ (ap (take (length target)) e ∙ take-append_seam target behind))) ∙ not-true (is_xml_word target) a.1)
 
 -- ---- what stands behind it
-
-space_ascii : (c : ℕ) → is_space c ≡ true → c < 128
-unfolding is_space
-space_ascii c h = grind (arith, nat_tests)
 
 space_ends : (c : ℕ) → is_space c ≡ true → continues_plain c ≡ false
 unfolding is_space

@@ -29,7 +29,7 @@ run_ends p (x ∷ xs) ys h k = let a = and_parts (p x) (list_all p xs) h in
 pub name_size : (bytes name behind : List ℕ) (n : ℕ) → is_plain_name name ≡ true → bytes ≡ name ++ behind → prefix_len continues_plain behind ≡ 0 → n ≡ prefix_len continues_plain bytes → n ≡ length name
 name_size bytes name behind n p e s c = c ∙ (ap (prefix_len continues_plain) e ∙ run_ends continues_plain name behind (all_continue name p) s)
 
-some_name : (name : List ℕ) → is_plain_name name ≡ true → 0 < length name
+pub some_name : (name : List ℕ) → is_plain_name name ≡ true → 0 < length name
 some_name [] p = absurd (both_ways false refl p)
 some_name (b ∷ cs) p = omega arith
 

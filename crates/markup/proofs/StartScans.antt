@@ -207,8 +207,8 @@ closed_by (b ∷ after) kind h = by (b == 62) (b == 47) refl refl h where
 
 -- ---- the whole tag
 
-regroup : (name given gap ends : List ℕ) → codes "<" ++ name ++ given ++ gap ++ ends ≡ 60 ∷ (name ++ (given ++ (gap ++ ends)))
-regroup name given gap ends = simp append_assoc
+pub tag_regrouped : (name given gap ends : List ℕ) → codes "<" ++ name ++ given ++ gap ++ ends ≡ 60 ∷ (name ++ (given ++ (gap ++ ends)))
+tag_regrouped name given gap ends = simp append_assoc
 
 module _ (front named : List ℕ) (name : Spelled) (behind after last : List ℕ) (first size : ℕ) (kind : TagKind) (given : List Given)
     (front_is : front ≡ first ∷ named) (first_is : first ≡ 60) (at : IsNameAt named name behind)
@@ -235,7 +235,7 @@ module _ (front named : List ℕ) (name : Spelled) (behind after last : List ℕ
   ends_encoded = encoded_append gap (ending kind) gap (ending kind) (spaces_encoded gap (front_spaces after)) (ending_encoded kind)
 
   token_is : token_bytes (Start start) ≡ 60 ∷ (written ++ (inner ++ ends))
-  token_is = ap encode_utf8_all (regroup (name_text (name_of name)) (flat_map attribute_text are.attributes) gap (ending kind) ∙ ap (λ w. 60 ∷ (w ++ (flat_map attribute_text are.attributes ++ ends))) (name_written name))
+  token_is = ap encode_utf8_all (tag_regrouped (name_text (name_of name)) (flat_map attribute_text are.attributes) gap (ending kind) ∙ ap (λ w. 60 ∷ (w ++ (flat_map attribute_text are.attributes ++ ends))) (name_written name))
       ∙ encoded_cons 60 (written ++ (flat_map attribute_text are.attributes ++ ends)) (written ++ (inner ++ ends)) (omega arith) (encoded_append written (flat_map attribute_text are.attributes ++ ends) written (inner ++ ends) (qualified_encoded name at.named) (encoded_append (flat_map attribute_text are.attributes) ends inner ends refl ends_encoded))
 
   ends_spelled : drop size behind ≡ ends ++ closed.0

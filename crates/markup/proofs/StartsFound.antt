@@ -9,7 +9,7 @@ use Rattle.lexical_core.proofs.Lists.{same_first, same_rest}
 use Rattle.markup.specs.Chars.{is_space}
 use Rattle.markup.specs.PlainTags.{begins_plain, mark_count, closing}
 use Rattle.markup.specs.PlainStarts.{is_plain_qualified, qualified_text, is_quote, is_literal_of, PlainAttribute, is_plain_attribute, plain_attribute_text, PlainStart, is_plain_start, start_end, plain_start_text}
-use Rattle.markup.specs.inner.WholeStarts.{goes_on_name, past_spaces, IsNameAt, IsValueAt, IsGapAt, IsEqualsAt, IsAttributeAt, BeginsNone, AreGiven, AreLeft}
+use Rattle.markup.specs.inner.WholeStarts.{goes_on_name, past_spaces, IsNameAt, IsValueAt, IsGapAt, IsEqualsAt, IsAttributeAt, BeginsNoAttribute, AreGiven, AreLeft}
 use Rattle.markup.specs.declared.plain_tag.TagKind.{TagKind}
 use Rattle.markup.specs.declared.plain_tag.TagKind.TheVariants.{Start as StartKind, Empty as EmptyKind}
 use Rattle.markup.specs.declared.start_tag.StartTag.{StartTag}
@@ -120,7 +120,7 @@ first_here left last a others p e = attribute_here left (flat_map plain_attribut
 abbrev pub FirstIs : List ℕ → List ℕ → Type 0
 FirstIs left behind = (name : Spelled) (value rest : List ℕ) → IsAttributeAt left name value rest → behind ≡ rest
 
-next_left : (others : List PlainAttribute) (left last : List ℕ) (name : Spelled) (value behind : List ℕ) → list_all is_plain_attribute others ≡ true → BeginsNone last → left ≡ flat_map plain_attribute_text others ++ last → IsAttributeAt left name value behind → FirstIs left behind
+next_left : (others : List PlainAttribute) (left last : List ℕ) (name : Spelled) (value behind : List ℕ) → list_all is_plain_attribute others ≡ true → BeginsNoAttribute last → left ≡ flat_map plain_attribute_text others ++ last → IsAttributeAt left name value behind → FirstIs left behind
     → (more : List PlainAttribute) × (list_all is_plain_attribute more ≡ true) × (behind ≡ flat_map plain_attribute_text more ++ last)
 next_left [] left last name value behind p s e a f = absurd (s name value behind (subst (λ v. IsAttributeAt v name value behind) e a))
 next_left (x ∷ more) left last name value behind p s e a f =
@@ -140,7 +140,7 @@ nothing_left (x ∷ more) left last p e n = absurd (n x.name x.value (flat_map p
 
 -- all of them are taken
 pub all_done : (bytes left last : List ℕ) (given : List Given) (attributes : List PlainAttribute) → AreGiven bytes given left × AreLeft bytes left → ((name : Spelled) (value behind : List ℕ) → IsAttributeAt left name value behind → ⊥)
-    → list_all is_plain_attribute attributes ≡ true → BeginsNone last → bytes ≡ flat_map plain_attribute_text attributes ++ last → length bytes - length left ≡ length (flat_map plain_attribute_text attributes)
+    → list_all is_plain_attribute attributes ≡ true → BeginsNoAttribute last → bytes ≡ flat_map plain_attribute_text attributes ++ last → length bytes - length left ≡ length (flat_map plain_attribute_text attributes)
 all_done bytes left last given attributes d n p s e =
     let o = d.1 attributes last p s e in
     omega (arith, ap length e, length-append (flat_map plain_attribute_text attributes) last, ap length (nothing_left o.0 left last o.1 o.2 n))
@@ -175,7 +175,7 @@ end_is_no_name is_empty rest behind name h e = let f = name_first name behind h 
   by true b more p k = both_ways false refl (ap begins_plain (same_first 47 b (62 ∷ rest) more k) ∙ p)
   by false b more p k = both_ways false refl (ap begins_plain (same_first 62 b rest more k) ∙ p)
 
-pub ends_attributes : (tag : PlainStart) (rest : List ℕ) → list_all is_space tag.gap ≡ true → BeginsNone (ends_of tag rest)
+pub ends_attributes : (tag : PlainStart) (rest : List ℕ) → list_all is_space tag.gap ≡ true → BeginsNoAttribute (ends_of tag rest)
 ends_attributes tag rest h name value behind s =
     let a : PlainAttribute = s.attribute in
     let k : IsPlainAttribute a = plain_facts a s.is in
@@ -228,7 +228,7 @@ module _ (front named rest : List ℕ) (first : ℕ) (tag : PlainStart) (plain :
     behind_is = a tag.name (behind_name tag rest) start_named start_ends
 
     -- from what is said of all that may be behind the name
-    pub attributes_size : (size : ℕ) → ((attributes : List PlainAttribute) (others : List ℕ) → list_all is_plain_attribute attributes ≡ true → BeginsNone others → behind ≡ flat_map plain_attribute_text attributes ++ others → size ≡ length (flat_map plain_attribute_text attributes))
+    pub attributes_size : (size : ℕ) → ((attributes : List PlainAttribute) (others : List ℕ) → list_all is_plain_attribute attributes ≡ true → BeginsNoAttribute others → behind ≡ flat_map plain_attribute_text attributes ++ others → size ≡ length (flat_map plain_attribute_text attributes))
         → size ≡ length texts
     attributes_size size s = s tag.attributes (ends_of tag rest) parts.1 (ends_attributes tag rest gap_is) behind_is
 

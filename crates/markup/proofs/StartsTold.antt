@@ -33,15 +33,13 @@ use Rattle.markup.proofs.NoCut.{stays_no_cut}
 use Rattle.markup.proofs.OpenTags.{IsSpelledName, written}
 use Rattle.markup.proofs.PlainLemmas.{is_fresh, text_place, text_between}
 use Rattle.markup.proofs.ReaderLemmas.{told_so_far, starts}
+use Rattle.markup.proofs.StartScans.{tag_regrouped}
 use Rattle.markup.proofs.TokenRuleLemmas.{in_cdata-open}
 use Rattle.markup.proofs.WholeTokens.{IsNext, none_open, all_told, takes_next}
 
 -- what holds of a tag that is there
 pub some_holds : {A : Type 0} (Holds : A → Type 0) (o : Option A) (tag : A) → o ≡ Some tag → IfSome o Holds → Holds tag
 some_holds Holds o tag e h = subst (λ v. IfSome v Holds) e h
-
-regroup : (name given gap ends : List ℕ) → codes "<" ++ name ++ given ++ gap ++ ends ≡ 60 ∷ (name ++ (given ++ (gap ++ ends)))
-regroup name given gap ends = simp append_assoc
 
 -- the tag begins with its name
 pub named_start : (piece prefix name : List ℕ) (attributes : List TagAttribute) (is_empty : Bool) (count : ℕ) → IsStartAt piece (spelled_opening prefix name attributes is_empty) count → (rest : List ℕ) × (piece ≡ 60 ∷ (joined_text prefix name ++ rest))
@@ -52,7 +50,7 @@ named_start piece prefix name attributes is_empty count at =
     let ends : List ℕ = if t.is_empty then codes "/>" else codes ">" in
     let behind : List ℕ = flat_map attribute_text t.attributes ++ (t.gap ++ ends) in
     let tag : token_bytes (Start t) ≡ 60 ∷ (joined_text prefix name ++ encode_utf8_all behind) =
-    ap encode_utf8_all (regroup (name_text t.name) (flat_map attribute_text t.attributes) t.gap ends)
+    ap encode_utf8_all (tag_regrouped (name_text t.name) (flat_map attribute_text t.attributes) t.gap ends)
     ∙ ap₂ (λ (x y : List ℕ). x ++ y) (encode_ascii 60 (omega arith)) (encodes-append (name_text t.name) behind ∙ ap (λ (v : List ℕ). v ++ encode_utf8_all behind) (written n s)) in (
       encode_utf8_all behind ++ drop count piece,
       sym (take-append-drop count piece) ∙ (ap (λ (v : List ℕ). v ++ drop count piece) (at.spelled ∙ tag) ∙ ap (λ (v : List ℕ). 60 ∷ v) (append_assoc (joined_text prefix name) (encode_utf8_all behind) (drop count piece))),

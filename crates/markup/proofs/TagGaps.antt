@@ -12,7 +12,7 @@ use Rattle.markup.specs.PlainTags.{begins_plain, continues_plain, is_plain_name}
 use Rattle.markup.specs.PlainStarts.{is_plain_prefix, is_plain_qualified, qualified_text, start_end}
 use Rattle.markup.specs.inner.WholeStarts.{past_spaces, goes_on_name, IsGapAt, IsEqualsAt}
 use Rattle.markup.specs.declared.tag.Spelled.{Spelled}
-use Rattle.markup.proofs.CharLemmas.{equals_no_space}
+use Rattle.markup.proofs.CharLemmas.{space_ascii, equals_no_space, quote_no_space}
 use Rattle.markup.proofs.NamesFound.{behind_front, run_ends}
 
 -- ---- a run
@@ -29,10 +29,6 @@ stops_at : (p : ℕ → Bool) (b : ℕ) (rest : List ℕ) → p b ≡ false → 
 stops_at p b rest h = ap (λ t. cond t (1 + prefix_len p rest) 0) h
 
 -- ---- white space
-
-space_ascii : (c : ℕ) → is_space c ≡ true → c < 128
-unfolding is_space
-space_ascii c h = grind (arith, nat_tests)
 
 pub spaces_encoded : (xs : List ℕ) → list_all is_space xs ≡ true → encode_utf8_all xs ≡ xs
 spaces_encoded [] h = refl
@@ -63,12 +59,8 @@ plain_no_space : (b : ℕ) → begins_plain b ≡ true → is_space b ≡ false
 unfolding is_space
 plain_no_space b h = grind (arith, nat_tests)
 
-quote_is_none : (q : ℕ) → (q == 34 || q == 39) ≡ true → is_space q ≡ false
-unfolding is_space
-quote_is_none q h = grind (arith, nat_tests)
-
 pub stops_at_quote : (q : ℕ) (rest : List ℕ) → (q == 34 || q == 39) ≡ true → prefix_len is_space (q ∷ rest) ≡ 0
-stops_at_quote q rest h = stops_at is_space q rest (quote_is_none q h)
+stops_at_quote q rest h = stops_at is_space q rest (quote_no_space q h)
 
 pub stops_at_equals : (rest : List ℕ) → prefix_len is_space (61 ∷ rest) ≡ 0
 stops_at_equals rest = stops_at is_space 61 rest equals_no_space

@@ -5,7 +5,7 @@ ghost use Rattle.markup.specs.Chars.{is_space};
 ghost use Rattle.markup.specs.Marks.{tag_limit};
 ghost use Rattle.markup.specs.PlainTags.{continues_plain, is_plain_name};
 ghost use Rattle.markup.specs.PlainStarts.{is_quote, PlainAttribute, is_plain_attribute, plain_attribute_text, PlainStart, is_plain_start, plain_start_text};
-ghost use Rattle.markup.specs.inner.WholeStarts.{named_by, goes_on_name, is_empty_kind, past_spaces, IsLocalAt, IsNameAt, IsValueAt, IsGapAt, IsEqualsAt, IsAttributeAt, BeginsNone, AreGiven, IsStartAt};
+ghost use Rattle.markup.specs.inner.WholeStarts.{named_by, goes_on_name, is_empty_kind, past_spaces, IsLocalAt, IsNameAt, IsValueAt, IsGapAt, IsEqualsAt, IsAttributeAt, BeginsNoAttribute, AreGiven, IsStartAt};
 ghost use Rattle.markup.specs.inner.TagParts.{tag_given, spelled_opening};
 ghost use Rattle.markup.specs.declared.tag.Spelled.{Spelled};
 
@@ -272,7 +272,7 @@ fn attributes_at<'a>(
     requires { found.old.items ≡ [] }
     ensures within { IfOk result (λ n. n ≤ length bytes.now) }
     ensures are { IfOk result (λ n. AreGiven bytes.now (map tag_given found.new.items) (drop n bytes.now)) }
-    ensures all { (attributes : List PlainAttribute) (last : List ℕ) → list_all is_plain_attribute attributes ≡ true → BeginsNone last → bytes.now ≡ flat_map plain_attribute_text attributes ++ last →
+    ensures all { (attributes : List PlainAttribute) (last : List ℕ) → list_all is_plain_attribute attributes ≡ true → BeginsNoAttribute last → bytes.now ≡ flat_map plain_attribute_text attributes ++ last →
         IfOk result (λ n. n ≡ length (flat_map plain_attribute_text attributes)) }
 {
     make_room(bytes, found)?;

@@ -68,8 +68,8 @@ pub record IsAttributeAt (bytes : List ℕ) (name : Spelled) (value behind : Lis
   pub valued : attribute.value ≡ value
 
 -- They begin with none.
-abbrev pub BeginsNone : List ℕ → Type 0
-BeginsNone bytes = (name : Spelled) (value behind : List ℕ) → IsAttributeAt bytes name value behind → ⊥
+abbrev pub BeginsNoAttribute : List ℕ → Type 0
+BeginsNoAttribute bytes = (name : Spelled) (value behind : List ℕ) → IsAttributeAt bytes name value behind → ⊥
 
 -- The bytes begin with attributes that give this, and then the rest.
 pub record AreGiven (bytes : List ℕ) (given : List Given) (rest : List ℕ) : Type 0 where
@@ -80,7 +80,7 @@ pub record AreGiven (bytes : List ℕ) (given : List Given) (rest : List ℕ) : 
 
 -- Where the bytes are plain attributes, behind which no other follows, what is left is the last of these.
 abbrev pub AreLeft : List ℕ → List ℕ → Type 0
-AreLeft bytes left = (attributes : List PlainAttribute) (last : List ℕ) → list_all is_plain_attribute attributes ≡ true → BeginsNone last → bytes ≡ flat_map plain_attribute_text attributes ++ last
+AreLeft bytes left = (attributes : List PlainAttribute) (last : List ℕ) → list_all is_plain_attribute attributes ≡ true → BeginsNoAttribute last → bytes ≡ flat_map plain_attribute_text attributes ++ last
     → (others : List PlainAttribute) × (list_all is_plain_attribute others ≡ true) × (left ≡ flat_map plain_attribute_text others ++ last)
 
 -- it is the tag of an empty element
