@@ -8,7 +8,7 @@ use std::process::Abort;
 use std::test::Fail;
 
 /// The repository of a note: one entry, one block.
-const NOTE: &[u8] =
+pub(crate) const NOTE: &[u8] =
     b"<iso20022:Repository xmlns:iso20022=\"urn:iso:std:iso:20022:2013:ecore\" xmlns:xmi=\"http://www.omg.org/XMI\" xmlns:xsi=\"http://www.w3.org/2001/XMLSchema-instance\">\n<dataDictionary>\n<topLevelDictionaryEntry xsi:type=\"iso20022:Text\" xmi:id=\"_t\" name=\"Max35Text\" minLength=\"1\" maxLength=\"35\"/>\n</dataDictionary>\n<businessProcessCatalogue><topLevelCatalogueEntry>\n<messageDefinition name=\"NoteV01\" xmlTag=\"Note\">\n<messageBuildingBlock name=\"Identification\" xmlTag=\"Id\" minOccurs=\"1\" maxOccurs=\"1\" simpleType=\"_t\"/>\n<messageDefinitionIdentifier businessArea=\"demo\" messageFunctionality=\"001\" flavour=\"001\" version=\"01\"/>\n</messageDefinition>\n</topLevelCatalogueEntry></businessProcessCatalogue>\n</iso20022:Repository>\n";
 
 /// The instance of a note.
