@@ -28,6 +28,8 @@ const OTHER: [&str; 4] = ["check-xml", "P", "-", "demo.009.001.01"];
 
 const SHORT: [&str; 3] = ["check-xml", "P", "-"];
 
+const TO_DER: [&str; 4] = ["xml-to-der", "P", "-", "demo.001.001.01"];
+
 const LIST: [&str; 3] = ["list", "P", "-"];
 
 const TYPES: [&str; 4] = ["types", "P", "-", "demo.001.001.01"];
@@ -307,6 +309,21 @@ fn faults_of_sinks(rt: HostRuntime) -> Result<(), Fail> {
         Status::WriteFault,
         nothing,
         b"refused: instance ".as_slice(),
+    );
+    Ok(())
+}
+
+/// DER cannot be pushed, and then its line is.
+#[test]
+fn faults_of_sinks_of_der(rt: HostRuntime) -> Result<(), Fail> {
+    let failing = failing_of(FIRST.as_slice(), NO_CALLS.as_slice());
+    let outcome = outcome_of(rt.alloc(), TO_DER.as_slice(), A1, 64, failing)?;
+    expect_outcome(
+        &rt,
+        &outcome,
+        Status::WriteFault,
+        b"".as_slice(),
+        b"failed: write\n".as_slice(),
     );
     Ok(())
 }
