@@ -252,6 +252,7 @@ impl CollapsedStep {
 }
 
 impl Value {
+    /// What takes the characters of a value of the kind, before the first; of a binary value no more octets are kept than this.
     fn new(alloc: Global, kind: Kind, most: Option<u64>) -> Value
         requires { IsNoText kind }
         ensures { HasValue kind result most [] [] }
@@ -263,6 +264,7 @@ impl Value {
         }
     }
 
+    /// Begins anew for a value of the same kind, with the memory that there is.
     fn restart(&mut self)
         ensures taken { (kind : Kind) (most : Option ℕ) (chars collapsed : List ℕ)
             → HasValue kind self.old most chars collapsed → HasValue kind self.new most [] [] }
@@ -276,6 +278,7 @@ impl Value {
         }
     }
 
+    /// Makes room for so many more octets.
     fn reserve(&mut self, bytes: usize) -> Result<(), AllocError>
         ensures ok { OnOk result (length (value_memory self.new).held + bytes ≤ (value_memory self.new).room) }
         ensures taken { (kind : Kind) (most : Option ℕ) (chars collapsed : List ℕ)

@@ -285,12 +285,14 @@ fn has_parts(kind: Kind, text: &[u8]) -> bool
     }
 }
 
+/// Whether the year is not 0, and the month one of the twelve.
 fn is_year_and_month(year: u32, month: u32) -> bool
     ensures { IsTrue result ↔ ((1 ≤ year) × (1 ≤ month) × (month ≤ 12)) }
 {
     year >= 1 && month >= 1 && month <= 12
 }
 
+/// Whether the number is one from 1 to this.
 fn is_between(number: u32, most: u32) -> bool
     ensures { IsTrue result ↔ ((1 ≤ number) × (number ≤ most)) }
 {

@@ -46,6 +46,7 @@ impl LeafStep {
         LeafStep::limited(alloc, kind, Some(most))
     }
 
+    /// As `new`, with the most characters or octets that are kept, where there is such a number.
     fn limited(alloc: Global, kind: Kind, most: Option<u64>) -> LeafStep
         ensures { HasTakenLeaf result kind most [] }
     {
@@ -174,6 +175,7 @@ impl LeafStep {
 }
 
 impl Body {
+    /// What takes the characters of a leaf of the kind, before the first.
     fn new(alloc: Global, kind: Kind, most: Option<u64>) -> Body
         ensures { HasBody kind result most [] }
     {

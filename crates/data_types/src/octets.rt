@@ -120,6 +120,7 @@ impl OctetStep {
         }
     }
 
+    /// Takes a character where the text has neither ended nor failed.
     fn step_open(&mut self, c: char) -> Result<(), AllocError>
         requires { self.old.stage ≡ Stage.Open }
         ensures ok { OnOk result (IsOctetStep self.old c self.new) }

@@ -92,6 +92,7 @@ impl Begun {
         }
     }
 
+    /// Takes the first byte of a character.
     #[inline]
     fn with_first(byte: u8) -> (Utf8, Begun)
         ensures steps { Steps (Some []) byte result.0 (begun_bytes result.1) }
@@ -104,6 +105,7 @@ impl Begun {
         }
     }
 
+    /// Takes the byte behind the first.
     fn with_second(first: u8, byte: u8) -> (Utf8, Begun)
         requires { CanGoOn (Begun.One first) }
         ensures steps { Steps (begun_bytes (Begun.One first)) byte result.0 (begun_bytes result.1) }
@@ -119,6 +121,7 @@ impl Begun {
         (Utf8::Char(char_of(code)), Begun::Nothing)
     }
 
+    /// Takes the byte behind the first two.
     fn with_third(first: u8, second: u8, byte: u8) -> (Utf8, Begun)
         requires { CanGoOn (Begun.Two first second) }
         ensures steps { Steps (begun_bytes (Begun.Two first second)) byte result.0 (begun_bytes result.1) }
@@ -136,6 +139,7 @@ impl Begun {
         (Utf8::Char(char_of(code)), Begun::Nothing)
     }
 
+    /// Takes the byte behind the first three, which is the last.
     fn with_fourth(first: u8, second: u8, third: u8, byte: u8) -> (Utf8, Begun)
         requires { CanGoOn (Begun.Three first second third) }
         ensures steps { Steps (begun_bytes (Begun.Three first second third)) byte result.0 (begun_bytes result.1) }

@@ -12,7 +12,7 @@ use super::source::Source;
 use std::alloc::{AllocError, Global};
 use std::marker::Model;
 
-// Which calls fail, and how many there were. Both counts stand still at `u64::MAX`.
+/// Which calls fail, and how many there were. Both counts stand still at `u64::MAX`.
 #[derive(Drop)]
 struct Script {
     fails: Vec<u64>,
@@ -21,6 +21,7 @@ struct Script {
 }
 
 impl Script {
+    /// Before the first call; the calls of these numbers fail, from 0.
     fn new(alloc: Global, fails: &[u64]) -> Result<Script, AllocError>
         ensures { IfOk result (λ s. (s.fails.items ≡ fails.now) × (s.calls ≡ 0) × (s.faults ≡ 0)) }
     {
@@ -31,7 +32,7 @@ impl Script {
         })
     }
 
-    // Counts one more call, and says whether it fails.
+    /// Counts one more call, and says whether it fails.
     fn fails_now(&mut self) -> bool
         ensures fails { IsTrue result ↔ Contains self.old.fails.items self.old.calls }
         ensures later { self.old.faults ≤ self.new.faults }

@@ -49,7 +49,7 @@ impl From<AllocError> for ReadError {
     }
 }
 
-// How many bytes are asked of a source at once.
+/// How many bytes are asked of a source at once.
 const PIECE: usize = 65536;
 
 /// A buffer for what is pulled from a source at once: 65,536 bytes. The error is want of memory.
@@ -59,7 +59,7 @@ pub fn piece_buffer(alloc: Global) -> Result<Vec<u8>, AllocError>
     Ok(vec![in alloc; 0u8; PIECE]?)
 }
 
-// Pulls at most this many bytes into the front of the buffer.
+/// Pulls at most this many bytes into the front of the buffer.
 fn pull_within<S: Source>(source: &mut S, buf: &mut [u8], most: usize) -> Result<usize, Failed>
     requires some_room { 0 < length buf.old }
     requires some { 0 < most }

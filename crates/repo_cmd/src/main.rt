@@ -23,6 +23,7 @@ const NO_TEXTS: u8 = 9;
 /// The exit status where there is no memory for the words or for an opened file.
 const NO_MEMORY: u8 = 8;
 
+/// Runs the command of the words, over the standard streams and the files that they name, and gives its exit status.
 fn main(rt: HostRuntime) -> ExitCode {
     let mut words = Vec::new(rt.alloc());
     match env::args(&rt) {

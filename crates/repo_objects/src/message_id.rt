@@ -55,7 +55,7 @@ impl MessageId {
     }
 }
 
-// Whether the bytes have the form of a message identifier.
+/// Whether the bytes have the form of a message identifier.
 fn has_form(bytes: &[u8]) -> bool
     ensures { IsTrue result ↔ IsMessageId bytes.now }
 {
@@ -69,18 +69,21 @@ fn has_form(bytes: &[u8]) -> bool
         && are_digits(&bytes[13..15])
 }
 
+/// Whether each byte is a lower-case letter of ASCII.
 fn are_lower_letters(bytes: &[u8]) -> bool
     ensures { result ≡ list_all is_lower_letter bytes.now }
 {
     bytes.iter().all(|byte| byte.is_ascii_lowercase())
 }
 
+/// Whether each byte is a letter or a digit of ASCII.
 fn are_letters_or_digits(bytes: &[u8]) -> bool
     ensures { result ≡ list_all is_letter_or_digit bytes.now }
 {
     bytes.iter().all(|byte| byte.is_ascii_alphanumeric())
 }
 
+/// Whether each byte is a digit of ASCII.
 fn are_digits(bytes: &[u8]) -> bool
     ensures { result ≡ list_all is_digit bytes.now }
 {

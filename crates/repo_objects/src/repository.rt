@@ -171,14 +171,14 @@ impl Repository {
     }
 }
 
-// Whether some object has that id.
+/// Whether some object has that id.
 fn has_id(objects: &Dictionary, id: &[u8]) -> bool
     ensures { IsTrue result ↔ HasId (entries_of objects.now.entries) id.now }
 {
     objects.contains_key(id)
 }
 
-// Gives the object at that place these codes.
+/// Gives the object at that place these codes.
 fn put_codes(objects: &mut Dictionary, at: usize, codes: CodeDefs)
     requires { at < length objects.old.entries }
     ensures { entries_of objects.new.entries ≡ with_codes (entries_of objects.old.entries) at codes }
@@ -188,7 +188,7 @@ fn put_codes(objects: &mut Dictionary, at: usize, codes: CodeDefs)
     }
 }
 
-// Puts the object at the end, under an id that no other has.
+/// Puts the object at the end, under an id that no other has.
 fn insert_last(objects: &mut Dictionary, id: Vec<u8>, object: Object) -> Result<(), AllocError>
     requires { HasId (entries_of objects.old.entries) id.items → ⊥ }
     ensures ok { OnOk result (entries_of objects.new.entries ≡ entries_of objects.old.entries ++ record { id = id.items; object = object } ∷ []) }
