@@ -4,8 +4,8 @@ use Rattle.lexical_core.specs.declared.rule.Rule.{Rule}
 use Rattle.der_model.specs.DerMessage.{DerMessage}
 use Rattle.der_model.specs.States.{Part, part_octets, State, Start, Within, state_after, innermost_end}
 use Rattle.der_model.specs.Paths.{path_of}
-use Rattle.der_model.specs.Faults.{DerFront, NextPart, broken, halts, overruns, cut, short, trailing, FaultInDer, DerFault, IsWholeDer}
-use Rattle.der_model.specs.MovedPlaces.{moved_levels, moved_state, moved_fault, DerFaultFrom, IsWholeDerFrom}
+use Rattle.der_model.specs.Faults.{DerFront, NextPart, broken, halts, overruns, cut, short, trailing, FaultInDer, DerFault, DerFaultFrom, IsWholeDer, IsWholeDerFrom}
+use Rattle.der_model.specs.MovedPlaces.{moved_levels, moved_state, moved_fault}
 use Rattle.der_model.specs.MovedLaws.{FrontMoves, NextPartMoves, PlacesMove, NoFaultBefore, WholeMoves, WholeEnds}
 use Rattle.der_model.proofs.OneFault.{next_as}
 use Rattle.der_model.proofs.WholeValues.{front_from}

@@ -93,21 +93,27 @@ pub record FaultInDer : Type 0 where
   pub place : ℕ
   pub path : List ℕ
 
--- The fault is the first of the bytes.
-pub record DerFault {P : Type 0} (m : DerMessage P) (bytes : List ℕ) (fault : FaultInDer) : Type 0 where
+-- The fault is the first of the bytes, of which the first stands at a place.
+pub record DerFaultFrom {P : Type 0} (m : DerMessage P) (base : ℕ) (bytes : List ℕ) (fault : FaultInDer) : Type 0 where
   pub parts : List Part
   pub state : State P
   pub at : ℕ
   pub rest : List ℕ
   pub off : ℕ
   pub added : List ℕ
-  pub front : DerFront m Start 0 bytes parts state at rest
+  pub front : DerFront m Start base bytes parts state at rest
   pub next : NextPart m state at rest fault.rule off added
   pub place : fault.place ≡ at + off
   pub path : fault.path ≡ path_of state ++ added
 
--- The bytes are whole parts that break no rule, up to the end of the instance.
-pub record IsWholeDer {P : Type 0} (m : DerMessage P) (bytes : List ℕ) : Type 0 where
+abbrev pub DerFault : {P : Type 0} → DerMessage P → List ℕ → FaultInDer → Type 0
+DerFault m bytes fault = DerFaultFrom m 0 bytes fault
+
+-- The bytes, of which the first stands at a place, are whole parts that break no rule, up to the end of the instance.
+pub record IsWholeDerFrom {P : Type 0} (m : DerMessage P) (base : ℕ) (bytes : List ℕ) : Type 0 where
   pub parts : List Part
   pub at : ℕ
-  pub front : DerFront m Start 0 bytes parts (Within []) at []
+  pub front : DerFront m Start base bytes parts (Within []) at []
+
+abbrev pub IsWholeDer : {P : Type 0} → DerMessage P → List ℕ → Type 0
+IsWholeDer m bytes = IsWholeDerFrom m 0 bytes

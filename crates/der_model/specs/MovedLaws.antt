@@ -3,8 +3,8 @@ use Rattle.std.specs.Prelude.{◌≡◌, ◌↔◌, ℕ, ◌+◌, ◌≤◌, Lis
 use Rattle.lexical_core.specs.declared.rule.Rule.{Rule}
 use Rattle.der_model.specs.DerMessage.{DerMessage}
 use Rattle.der_model.specs.States.{Part, State}
-use Rattle.der_model.specs.Faults.{DerFront, NextPart, FaultInDer, DerFault, IsWholeDer}
-use Rattle.der_model.specs.MovedPlaces.{moved_state, moved_fault, DerFaultFrom, IsWholeDerFrom}
+use Rattle.der_model.specs.Faults.{DerFront, NextPart, FaultInDer, DerFault, DerFaultFrom, IsWholeDer, IsWholeDerFrom}
+use Rattle.der_model.specs.MovedPlaces.{moved_state, moved_fault}
 
 -- Parts that break no rule in a moved state, from a place moved as far, are those that break none in the state itself, and leave what these leave, moved.
 abbrev pub FrontMoves : {P : Type 0} → DerMessage P → Type 0
