@@ -14,7 +14,7 @@ use Rattle.data_types.specs.LeafSteps.{IsShortKind}
 use Rattle.facets.specs.declared.asked.Asked.{Asked}
 use Rattle.facets.specs.declared.asked.Asked.TheVariants.{Text, Collapsed}
 use Rattle.facets.specs.declared.simple.Simple.{Simple}
-use Rattle.facets.specs.Rules.{IsAsked}
+use Rattle.facets.specs.Rules.{IsAsked, BreaksPattern}
 use Rattle.facets.specs.Facets.{HasLength}
 use Rattle.facets.specs.Counts.{IsTooLong}
 use Rattle.facets.specs.PatternChecks.{HasAsked, HasFollowed, IsDateKind, TellsPattern}
@@ -124,3 +124,13 @@ date_is_short k d = record {
   no_decimal = λ e. subst IsDateKind e d;
   no_binary = λ e. subst IsDateKind e d;
 }
+
+-- a text that is known to be a word of the pattern does not break it
+pub known_text : (asked : Asked) (simple : Simple) (text seen : List ℕ) (matcher : Matching) (pattern : List ℕ) → asked ≡ Text matcher → simple.pattern ≡ Some pattern
+    → Matches (chars pattern) text → HasAsked asked simple seen → BreaksPattern simple text → ⊥
+known_text asked simple text seen matcher pattern is has matches h = from (subst (λ a. HasAsked a simple seen) is h)
+  where
+    from : HasAsked (Text matcher) simple seen → BreaksPattern simple text → ⊥
+    from (text_kind, none, own, e, read) =
+        asked_once simple text text pattern true has (asks_text simple.kind simple.codes text text_kind none) (λ other ask. text_asked simple.kind simple.codes text other text_kind ask)
+        (λ yes. matches, λ m. refl)

@@ -1,5 +1,5 @@
 //! The pattern of a simple type, asked of the characters of a text as they come.
-ghost use Rattle.std.specs.Prelude.{◌∷◌, ◌++◌, [], ℕ, List, length, IfOk};
+ghost use Rattle.std.specs.Prelude.{◌∷◌, ◌++◌, [], ℕ, List, length, IfOk, IsTrue};
 ghost use Rattle.std.specs.List.{AllByRecursion};
 ghost use Rattle.std.specs.Str.{chars};
 ghost use Rattle.lexical_core.specs.XmlRuns.{IsXmlRun};
@@ -8,6 +8,7 @@ ghost use Rattle.pattern_match.specs.Compiled.{HasReadWord, IsMadeFor};
 ghost use Rattle.data_types.specs.Collapsing.{gain_of, gap_text, HasCollapsed};
 ghost use Rattle.facets.specs.Counts.{HasCounted};
 ghost use Rattle.facets.specs.PatternChecks.{HasAsked, HasFollowed, TellsPattern};
+ghost use Rattle.facets.specs.Rules.{BreaksPattern};
 
 use crate::count::Count;
 use crate::simple::Simple;
@@ -155,6 +156,21 @@ impl Asked {
     {
         for c in text.chars() {
             self.take(simple, c);
+        }
+    }
+
+    /// Whether it is known without a step that a text of these codes breaks no pattern. Where it is false nothing is known.
+    #[inline]
+    pub(crate) fn knows(&self, simple: &Simple, codes: &[u8]) -> bool
+        requires { (text : List ℕ) × HasAsked self.now simple.now text }
+        ensures { IsTrue result → BreaksPattern simple.now codes.now → ⊥ }
+    {
+        let Some(pattern) = &simple.pattern else {
+            return true;
+        };
+        match self {
+            Asked::Text(matcher) => matcher.knows(pattern, codes),
+            _ => false,
         }
     }
 

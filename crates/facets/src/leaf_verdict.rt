@@ -3,8 +3,10 @@ ghost use Rattle.std.specs.Prelude.{◌≡◌, ◌↔◌, ◌+◌, ◌≤◌, �
 ghost use Rattle.lexical_core.specs.Characters.{IsXmlChar};
 ghost use Rattle.lexical_core.specs.XmlRuns.{IsXmlRun};
 ghost use Rattle.data_types.specs.declared.kind.Kind.TheVariants as kind;
+ghost use Rattle.data_types.specs.Leaf.{Leaf};
 ghost use Rattle.facets.specs.declared.simple.Simple.{Simple as SimpleType};
 ghost use Rattle.facets.specs.LeafChecks.{IsWithinLimits, IsHeldWithin, leaf_limit};
+ghost use Rattle.facets.specs.LeafUnder.{GivesLeaf};
 ghost use Rattle.facets.specs.LeafVerdicts.{HasVerdictTaken, IsVerdictMadeFor, IsVerdict, IsFreeText, verdict_limit, verdict_kept, verdict_in_place, verdict_room, verdict_spare};
 
 use crate::progress::Progress;
@@ -86,6 +88,19 @@ impl LeafVerdict {
         ensures room { verdict_room self.old ≤ verdict_room self.new }
     {
         self.progress.take_run(simple, run, count)
+    }
+
+    /// Whether it is known without a step that a run of so many characters spells a leaf of a text without codes. The check
+    /// stays as it is; where the answer is false they may still spell one, and `take_run` and `finish` tell. It takes no
+    /// memory.
+    #[inline]
+    pub fn knows(&self, simple: &Simple, run: &[u8], count: usize) -> bool
+        requires run { IsXmlRun run.now count }
+        requires free { IsFreeText simple.now }
+        requires made { IsVerdictMadeFor self.now simple.now }
+        ensures { (r : IsXmlRun run.now count) → IsTrue result → (leaf : Leaf) × GivesLeaf simple.now r.chars leaf }
+    {
+        self.progress.knows(simple, run, count)
     }
 
     /// How many bytes are held for the leaf, in memory and in place: at most four to each character within the

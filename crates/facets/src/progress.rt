@@ -1,5 +1,5 @@
 //! What is known of the characters of a leaf so far, as its simple type asks: XML Schema part 2 §4.3.
-ghost use Rattle.std.specs.Prelude.{◌≡◌, ◌+◌, ◌*◌, ◌^◌, ◌<◌, ◌≤◌, ◌++◌, ◌∷◌, [], ℕ, List, Option, length, Some, None, IsOk, IfOk, IfSome, IfNone, OnOk, OnErr};
+ghost use Rattle.std.specs.Prelude.{◌≡◌, ◌+◌, ◌*◌, ◌^◌, ◌<◌, ◌≤◌, ◌++◌, ◌∷◌, [], ℕ, List, Option, length, Some, None, IsOk, IfOk, IfSome, IfNone, OnOk, OnErr, IsTrue};
 ghost use Rattle.std.specs.List.{AllByRecursion};
 ghost use Rattle.lexical_core.specs.Characters.{IsXmlChar};
 ghost use Rattle.lexical_core.specs.XmlRuns.{IsXmlRun};
@@ -10,15 +10,17 @@ ghost use Rattle.facets.specs.LeafUnder.{IsAnswer};
 ghost use Rattle.facets.specs.CodeLists.{longest_of};
 ghost use Rattle.facets.specs.LeafChecks.{IsCodeAnswer, IsByteCode, IsMeasuredKind, IsMeasureAnswer, IsTextAnswer, HasSeen, IsWithinLimits, keep_limit};
 ghost use Rattle.facets.specs.LeafVerdicts.{IsVerdict};
+ghost use Rattle.facets.specs.Facets.{HasLength};
+ghost use Rattle.facets.specs.Rules.{BreaksPattern};
 ghost use Rattle.facets.specs.declared.simple.Simple.{Simple as SimpleType};
 
 use crate::asked::Asked;
 use crate::codes::Codes;
 use crate::count::Count;
 use crate::digits::check_number;
-use crate::lengths::{check_count, check_octets};
+use crate::lengths::{check_count, check_octets, has_length};
 use crate::simple::Simple;
-use data_types::{Kind, LeafRef, LeafStep};
+use data_types::{Kind, LeafRef, LeafStep, RunChars, run_chars};
 use lexical_core::Rule;
 use std::alloc::{AllocError, Global};
 
@@ -174,6 +176,23 @@ impl Progress {
             return Err(Rule::PatternFails);
         }
         Ok(())
+    }
+
+    /// Whether it is known without a step that a run of so many characters has the length and the pattern of a text without
+    /// codes. Where it is false nothing is known.
+    #[inline]
+    pub(crate) fn knows(&self, simple: &Simple, run: &[u8], count: usize) -> bool
+        requires run { IsXmlRun run.now count }
+        requires made { (most : Option ℕ) × (text : List ℕ) × HasSeen self.now most simple.now text }
+        ensures { (r : IsXmlRun run.now count) → IsTrue result → HasLength simple.now (length r.chars) × (BreaksPattern simple.now r.chars → ⊥) }
+    {
+        if !has_length(simple, count as u64) {
+            return false;
+        }
+        match run_chars(run, count) {
+            RunChars::Codes(codes) => self.asked.knows(simple, codes),
+            RunChars::Text(_) => false,
+        }
     }
 
     /// Whether a binary value has its form and its length, or the first rule that it breaks. Of its octets none need

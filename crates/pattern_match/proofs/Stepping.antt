@@ -160,3 +160,20 @@ recollected bytes old new w d e a f k z h = (
   where
     same : reached_marks new ≡ new.walk.cells
     same = ap₂ (λ x y. marks_at x y new.walk.cells) a k ∙ marks_again old.at old.known old.walk.cells new.walk.cells e
+
+-- a word that is remembered, from the beginning on
+pub known_word : (bytes : List ℕ) (m : Matching) (s t : ℕ) (w codes : List ℕ) → m.first ≡ Some s
+    → ((next : ℕ → List Bool → List Bool) (marks : List Bool) → IsRightTable next m.known → IsRow m.known (Some s) marks → IsRow m.known (Some t) (marks_behind next marks codes))
+    → HasReadWord bytes m w → HasReadWord bytes (record m { at = Some t }) codes
+known_word bytes m s t w codes f g h =
+    read_behind bytes (record m { at = Some s }) (record m { at = Some t }) s t [] codes refl refl refl refl refl refl g
+    (begun_known bytes m (record m { at = Some s }) s w refl refl refl refl f refl h)
+
+-- it has marks, which are those behind that word
+pub known_reached : (bytes : List ℕ) (m : Matching) (k : Known) (s t : ℕ) (codes : List ℕ) → k ≡ m.known → m.first ≡ Some s
+    → ((next : ℕ → List Bool → List Bool) (marks : List Bool) → IsRightTable next k → IsRow k (Some s) marks → IsRow k (Some t) (marks_behind next marks codes))
+    → IsMadeFor bytes m → (t < length k.rows) × IsMarked bytes (row k t) codes
+known_reached bytes m k s t codes e f g (w, h) =
+    let r = known_word bytes m s t w codes f
+    (subst (λ y. (next : ℕ → List Bool → List Bool) (marks : List Bool) → IsRightTable next y → IsRow y (Some s) marks → IsRow y (Some t) (marks_behind next marks codes)) e g) h in
+    (subst (λ y. t < length y.rows) (sym e) (r.at t refl).0, subst (λ y. IsMarked bytes (row y t) codes) (sym e) r.marked)

@@ -210,6 +210,22 @@ impl Matcher {
         }
     }
 
+    /// Whether it is known from words that were read that the characters of these codes are one of the pattern. It reads
+    /// nothing, and where it is false they may still be one.
+    #[inline]
+    pub fn knows(&self, pattern: &Pattern, codes: &[u8]) -> bool
+        requires { IsMadeFor pattern.now self.now }
+        ensures { IsTrue result → Matches (chars pattern.now) codes.now }
+    {
+        let Some(first) = self.first else {
+            return false;
+        };
+        let Some(at) = self.recall.reach(first, codes) else {
+            return false;
+        };
+        last_mark(pattern, self.recall.row(at))
+    }
+
     /// Whether the characters that were read are a word of the pattern. It takes no memory.
     pub fn accepts(&self, pattern: &Pattern) -> bool
         requires { IsMadeFor pattern.now self.now }

@@ -157,6 +157,26 @@ impl Recall {
         }
     }
 
+    /// The number of the marks that are reached behind those of this number by these codes, if all on the way are known.
+    #[inline]
+    pub fn reach(&self, at: usize, codes: &[u8]) -> Option<usize>
+        ensures { IfSome result (λ t. (next : ℕ → List Bool → List Bool) (marks : List Bool) → IsRightTable next self.now → IsRow self.now (Some at) marks → IsRow self.now (Some t) (marks_behind next marks codes.now)) }
+    {
+        if at >= MOST {
+            return None;
+        }
+        let table = self.known_cells();
+        let mut here = at;
+        for code in codes {
+            let cell = cell_at(table, here, *code);
+            if cell == 0 {
+                return None;
+            }
+            here = cell as usize - 1;
+        }
+        Some(here)
+    }
+
     /// The marks of this number.
     pub fn row(&self, at: usize) -> &[bool]
         requires { at < length self.now.rows }
