@@ -1,5 +1,5 @@
 -- The two blocks of a region, with one more node.
-use Rattle.std.proofs.Common.{◌≡◌, ℕ, zero, suc, ◌+◌, ◌-◌, ◌<◌, ◌≤◌, List, [], ◌∷◌, ◌++◌, length, take, drop, get_or, slice_get, slice_range, Option, Some, None, refl, sym, ap, ap₂, ◌∙◌, arith, length-append, add-one}
+use Rattle.std.proofs.Common.{◌≡◌, ℕ, zero, suc, ◌+◌, ◌-◌, ◌<◌, ◌≤◌, List, [], ◌∷◌, ◌++◌, length, take, drop, get_or, slice_get, slice_range, Option, Some, None, refl, sym, ap, ap₂, subst, ◌∙◌, arith, length-append, add-one}
 use Rattle.std.proofs.Math.Seq.{drop-append_seam}
 use Rattle.std.proofs.lemmas.Option.{slice_get-get_or}
 use Rattle.std.specs.Option.{option_map}
@@ -8,6 +8,7 @@ use Rattle.data_types.specs.Leaf.{Leaf, Bytes as BytesLeaf}
 use Rattle.data_types.specs.Value.{Piece, Holds}
 use Rattle.inst_pool.specs.Pieces.{piece_bytes, bytes_of, room_limit, piece_of}
 use Rattle.inst_pool.specs.Contents.{piece_in, IsContentInside, pieces_in, AreInside, AreBlocks, content_of_bytes, plain_leaf}
+use Rattle.inst_pool.specs.declared.piece.Edge.{Edge as Told}
 use Rattle.inst_pool.specs.declared.piece.Piece.{Piece as PieceRef}
 use Rattle.inst_pool.specs.declared.content.Content.{Content}
 use Rattle.inst_pool.specs.declared.content.Content.TheVariants.{Open, Bytes, Number, Flag, Code, Close}
@@ -22,7 +23,7 @@ blocks-add contents bytes c h inside none = record {
 }
 
 -- the bytes at the end of a block
-range_end : (bytes more : List ℕ) → slice_range (bytes ++ more) (length bytes) (length bytes + length more) ≡ more
+pub range_end : (bytes more : List ℕ) → slice_range (bytes ++ more) (length bytes) (length bytes + length more) ≡ more
 range_end bytes more =
     let n : (length bytes + length more) - length bytes ≡ length more = omega arith in
     ap₂ (λ (k : ℕ) (l : List ℕ). take k l) n (drop-append_seam bytes more) ∙ whole more
@@ -44,6 +45,29 @@ blocks-store contents bytes more h byte_limit =
       count = ap bytes_of (pieces-store contents bytes more h.inside) ∙ (bytes_of-append (pieces_in bytes contents) (Holds (BytesLeaf more) ∷ []) ∙ (let e = h.count in omega (arith, e, longer)));
       byte_limit = omega (arith, longer, byte_limit);
     }
+
+-- contents that are added one by one
+pub added_each : {A : Type 0} (l : List A) (x y z : A) → ((l ++ x ∷ []) ++ y ∷ []) ++ z ∷ [] ≡ l ++ x ∷ y ∷ z ∷ []
+added_each [] x y z = refl
+added_each (a ∷ l) x y z = ap (λ t. a ∷ t) (added_each l x y z)
+
+-- an element with a node without bytes
+pub blocks-within : (contents : List Content) (bytes : List ℕ) (edge : Told) (c : Content) → AreBlocks contents bytes → IsContentInside (length bytes) c → piece_bytes (piece_in bytes c) ≡ 0
+    → AreBlocks (contents ++ Open edge ∷ c ∷ Close edge ∷ []) bytes
+blocks-within contents bytes edge c h inside none =
+    let one = blocks-add contents bytes (Open edge) h tt refl in
+    let two = blocks-add (contents ++ Open edge ∷ []) bytes c one inside none in
+    let three = blocks-add ((contents ++ Open edge ∷ []) ++ c ∷ []) bytes (Close edge) two tt refl in
+    subst (λ (l : List Content). AreBlocks l bytes) (added_each contents (Open edge) c (Close edge)) three
+
+-- an element with bytes
+pub blocks-within_store : (contents : List Content) (bytes more : List ℕ) (edge : Told) → AreBlocks contents bytes → length bytes + length more ≤ room_limit
+    → AreBlocks (contents ++ Open edge ∷ content_of_bytes bytes more ∷ Close edge ∷ []) (bytes ++ more)
+blocks-within_store contents bytes more edge h limit =
+    let one = blocks-add contents bytes (Open edge) h tt refl in
+    let two = blocks-store (contents ++ Open edge ∷ []) bytes more one limit in
+    let three = blocks-add ((contents ++ Open edge ∷ []) ++ content_of_bytes bytes more ∷ []) (bytes ++ more) (Close edge) two tt refl in
+    subst (λ (l : List Content). AreBlocks l (bytes ++ more)) (added_each contents (Open edge) (content_of_bytes bytes more) (Close edge)) three
 
 -- a leaf without bytes
 pub plain_piece : (bytes : List ℕ) (c : Content) (leaf : Leaf) → plain_leaf c ≡ Some leaf → piece_in bytes c ≡ Holds leaf

@@ -1,19 +1,19 @@
 -- The blocks of an instance that is being made, with one more content.
-use Rattle.std.proofs.Common.{◌≡◌, ℕ, ◌+◌, ◌-◌, ◌≤◌, List, [], ◌∷◌, ◌++◌, length, drop, Some, refl, sym, ap, ◌∙◌, arith, length-append}
+use Rattle.std.proofs.Common.{◌≡◌, ℕ, ◌+◌, ◌-◌, ◌≤◌, List, [], ◌∷◌, ◌++◌, length, drop, Some, refl, sym, ap, ap₂, ◌∙◌, arith, length-append}
 use Rattle.std.specs.Prelude.{slice_get, vec_capacity}
 use Rattle.std.specs.Option.{option_map}
 use Rattle.std.proofs.lemmas.List.{nil_from_length}
 use Rattle.data_types.specs.Leaf.{Leaf, Bytes as BytesLeaf}
 use Rattle.data_types.specs.Value.{Edge, Piece, Begins, Holds, Ends}
 use Rattle.inst_pool.specs.Blocks.{HasRoomInBlocks, SameItems, opened_in, block_pieces, AreBuilding}
-use Rattle.inst_pool.specs.Contents.{piece_in, content_of_bytes, plain_leaf}
+use Rattle.inst_pool.specs.Contents.{piece_in, pieces_in, AreBlocks, content_of_bytes, plain_leaf}
 use Rattle.inst_pool.specs.Pieces.{edge_of, open_in, edges_open_behind, room_limit}
 use Rattle.inst_pool.specs.declared.blocks.Blocks.{Blocks}
 use Rattle.inst_pool.specs.declared.content.Content.{Content}
 use Rattle.inst_pool.specs.declared.content.Content.TheVariants.{Open, Close}
 use Rattle.inst_pool.specs.declared.piece.Edge.{Edge as Told}
-use Rattle.inst_pool.proofs.ContentLemmas.{length_pieces, pieces-append, open-append}
-use Rattle.inst_pool.proofs.BlockLemmas.{blocks-add, blocks-store, pieces-store, plain_piece, plain_inside, plain_bytes}
+use Rattle.inst_pool.proofs.ContentLemmas.{length_pieces, pieces-append, pieces-grow, open-append}
+use Rattle.inst_pool.proofs.BlockLemmas.{blocks-add, blocks-store, blocks-within, blocks-within_store, pieces-store, range_end, plain_piece, plain_inside, plain_bytes}
 
 -- ---- the elements that are open
 
@@ -153,3 +153,63 @@ building_store m n more h fits limit a bytes opened = record {
   room = added_room m n (content_of_bytes m.bytes.items more) a h.room fits;
   opened = ap (opened_in []) opened ∙ (h.opened ∙ sym (ap open_in (stored_pieces m n more h a bytes) ∙ open-hold (block_pieces m) (BytesLeaf more)));
 }
+
+-- ---- an element with its leaf
+
+-- the contents of an element with its leaf are added, and the room is what it was
+pub record AddedWithin (m n : Blocks) (edge : Told) (x : Content) : Type 0 where
+  pub contents : n.contents.items ≡ m.contents.items ++ Open edge ∷ x ∷ Close edge ∷ []
+  pub contents_room : n.contents.room ≡ m.contents.room
+  pub opened : n.opened ≡ m.opened
+  pub lens : n.lens ≡ m.lens
+  pub groups : n.groups ≡ m.groups
+  pub room : n.room ≡ m.room
+
+within_room : (m n : Blocks) (edge : Told) (x : Content) → AddedWithin m n edge x → HasRoomInBlocks m → length m.contents.items + 3 ≤ m.room → HasRoomInBlocks n
+within_room m n edge x a h fits =
+    let count = length-append m.contents.items (Open edge ∷ x ∷ Close edge ∷ []) in
+    record {
+      pieces = rw (a.contents, a.room) (omega (arith, count, fits));
+      limit = rw a.room h.limit;
+      contents = rw (a.room, a.contents_room) h.contents;
+      opened = rw (a.room, a.opened) h.opened;
+      lens = rw (a.room, a.lens) h.lens;
+      groups = rw (a.room, a.groups) h.groups;
+    }
+
+within_pieces : (m n : Blocks) (edge : Told) (x : Content) (leaf : Leaf) → AddedWithin m n edge x → pieces_in n.bytes.items m.contents.items ≡ block_pieces m → piece_in n.bytes.items x ≡ Holds leaf
+    → block_pieces n ≡ block_pieces m ++ Begins (edge_of edge) ∷ Holds leaf ∷ Ends (edge_of edge) ∷ []
+within_pieces m n edge x leaf a same is = ap (pieces_in n.bytes.items) a.contents
+    ∙ (pieces-append n.bytes.items m.contents.items (Open edge ∷ x ∷ Close edge ∷ [])
+    ∙ ap₂ (λ (l : List Piece) (p : Piece). l ++ Begins (edge_of edge) ∷ p ∷ Ends (edge_of edge) ∷ []) same is)
+
+building_within : (m n : Blocks) (edge : Told) (x : Content) (leaf : Leaf) → AreBuilding m → length m.contents.items + 3 ≤ m.room → AddedWithin m n edge x → AreBlocks n.contents.items n.bytes.items
+    → block_pieces n ≡ block_pieces m ++ Begins (edge_of edge) ∷ Holds leaf ∷ Ends (edge_of edge) ∷ [] → AreBuilding n
+building_within m n edge x leaf h fits a blocks pieces = record {
+  blocks = blocks;
+  room = within_room m n edge x a h.room fits;
+  opened = rw a.opened (h.opened ∙ sym (ap open_in pieces ∙ open-append [] (block_pieces m) (Begins (edge_of edge) ∷ Holds leaf ∷ Ends (edge_of edge) ∷ [])));
+}
+
+-- a leaf without bytes
+pub plain_within_pieces : (m n : Blocks) (edge : Told) (x : Content) (leaf : Leaf) → plain_leaf x ≡ Some leaf → AddedWithin m n edge x → n.bytes ≡ m.bytes
+    → block_pieces n ≡ block_pieces m ++ Begins (edge_of edge) ∷ Holds leaf ∷ Ends (edge_of edge) ∷ []
+plain_within_pieces m n edge x leaf is a bytes = within_pieces m n edge x leaf a (rw bytes refl) (rw bytes (plain_piece m.bytes.items x leaf is))
+
+pub building_plain_within : (m n : Blocks) (edge : Told) (x : Content) (leaf : Leaf) → plain_leaf x ≡ Some leaf → AreBuilding m → length m.contents.items + 3 ≤ m.room → AddedWithin m n edge x → n.bytes ≡ m.bytes → AreBuilding n
+building_plain_within m n edge x leaf is h fits a bytes =
+    building_within m n edge x leaf h fits a (rw (a.contents, bytes) (blocks-within m.contents.items m.bytes.items edge x h.blocks (plain_inside _ x leaf is) (plain_bytes _ x leaf is)))
+    (plain_within_pieces m n edge x leaf is a bytes)
+
+-- a leaf of bytes
+pub stored_within_pieces : (m n : Blocks) (edge : Told) (more : List ℕ) → AreBuilding m → AddedWithin m n edge (content_of_bytes m.bytes.items more) → n.bytes.items ≡ m.bytes.items ++ more
+    → block_pieces n ≡ block_pieces m ++ Begins (edge_of edge) ∷ Holds (BytesLeaf more) ∷ Ends (edge_of edge) ∷ []
+stored_within_pieces m n edge more h a bytes =
+    within_pieces m n edge (content_of_bytes m.bytes.items more) (BytesLeaf more) a (rw bytes (pieces-grow m.bytes.items more m.contents.items h.blocks.inside))
+    (rw bytes (ap (λ (l : List ℕ). Holds (BytesLeaf l)) (range_end m.bytes.items more)))
+
+pub building_stored_within : (m n : Blocks) (edge : Told) (more : List ℕ) → AreBuilding m → length m.contents.items + 3 ≤ m.room → length m.bytes.items + length more ≤ room_limit
+    → AddedWithin m n edge (content_of_bytes m.bytes.items more) → n.bytes.items ≡ m.bytes.items ++ more → AreBuilding n
+building_stored_within m n edge more h fits limit a bytes =
+    building_within m n edge (content_of_bytes m.bytes.items more) (BytesLeaf more) h fits a (rw (a.contents, bytes) (blocks-within_store m.contents.items m.bytes.items more edge h.blocks limit))
+    (stored_within_pieces m n edge more h a bytes)

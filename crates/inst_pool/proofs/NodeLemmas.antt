@@ -45,6 +45,16 @@ pub within-push : (n m : ℕ) (nodes : List Node) (x : Node) → n ≤ m → Are
 within-push n m [] x le h i = (i, tt)
 within-push n m (y ∷ nodes) x le h i = (within_more n m y le h.0, within-push n m nodes x le h.1 i)
 
+pub within-append : (n : ℕ) (nodes more : List Node) → AreNodesWithin n nodes → AreNodesWithin n more → AreNodesWithin n (nodes ++ more)
+within-append n [] more h i = i
+within-append n (y ∷ nodes) more h i = (h.0, within-append n nodes more h.1 i)
+
+-- three nodes more
+pub pushed_three : (block : List Content) (nodes : List Node) (x y z : Node) (c d e : Content) → content_of block x ≡ c → content_of block y ≡ d → content_of block z ≡ e
+    → contents_in block (nodes ++ x ∷ y ∷ z ∷ []) ≡ contents_in block nodes ++ c ∷ d ∷ e ∷ []
+pushed_three block nodes x y z c d e is_c is_d is_e = contents-append block nodes (x ∷ y ∷ z ∷ [])
+    ∙ ap (λ (l : List Content). contents_in block nodes ++ l) (ap₂ (λ (a : Content) (l : List Content). a ∷ l) is_c (ap₂ (λ (a b : Content). a ∷ b ∷ []) is_d is_e))
+
 pub pushed_short : (block : List Content) (nodes : List Node) (x : Node) (c : Content) → content_of block x ≡ c → contents_in block (nodes ++ x ∷ []) ≡ contents_in block nodes ++ c ∷ []
 pushed_short block nodes x c e = contents-append block nodes (x ∷ []) ∙ ap (λ (d : Content). contents_in block nodes ++ d ∷ []) e
 

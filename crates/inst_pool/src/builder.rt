@@ -145,6 +145,51 @@ impl Builder {
         }
     }
 
+    /// An element that begins, its leaf and its end. After want of memory the pieces are as before.
+    #[inline(always)]
+    pub fn leaf_within(&mut self, edge: Edge, leaf: &LeafRef<'_>) -> Result<(), AllocError>
+        ensures ok { OnOk result (self.new.pieces ≡ self.old.pieces ++ Begins (edge_of edge) ∷ Holds (leaf_of leaf.now) ∷ Ends (edge_of edge) ∷ []) }
+        ensures err { OnErr result (self.new.pieces ≡ self.old.pieces) }
+        ensures within { 3 ≤ spare_nodes self.old → octet_count (leaf_of leaf.now) ≤ spare_bytes self.old → IsOk result }
+        ensures room { (self.old.node_room ≤ self.new.node_room) × (self.old.byte_room ≤ self.new.byte_room) }
+    {
+        match leaf {
+            LeafRef::Bytes(bytes) => self.hold_bytes_within(edge, bytes),
+            LeafRef::Number(number) => self.hold_within(edge, Content::Number(*number)),
+            LeafRef::Flag(flag) => self.hold_within(edge, Content::Flag(*flag)),
+            LeafRef::Code(place) => self.hold_within(edge, Content::Code(*place)),
+        }
+    }
+
+    /// A leaf without bytes, within its element.
+    fn hold_within(&mut self, edge: Edge, content: Content) -> Result<(), AllocError>
+        requires { (leaf : Leaf) × (plain_leaf content ≡ Some leaf) }
+        ensures ok { (leaf : Leaf) → plain_leaf content ≡ Some leaf → OnOk result (self.new.pieces ≡ self.old.pieces ++ Begins (edge_of edge) ∷ Holds leaf ∷ Ends (edge_of edge) ∷ []) }
+        ensures err { OnErr result (self.new.pieces ≡ self.old.pieces) }
+        ensures within { 3 ≤ spare_nodes self.old → IsOk result }
+        ensures room { (self.old.node_room ≤ self.new.node_room) × (self.old.byte_room ≤ self.new.byte_room) }
+    {
+        make_piece_room(&mut self.blocks, 3)?;
+        self.blocks.contents.push_within(edge, content);
+        Ok(())
+    }
+
+    /// A leaf of bytes, within its element.
+    #[inline(always)]
+    fn hold_bytes_within(&mut self, edge: Edge, bytes: &[u8]) -> Result<(), AllocError>
+        ensures ok { OnOk result (self.new.pieces ≡ self.old.pieces ++ Begins (edge_of edge) ∷ Holds (BytesLeaf bytes.now) ∷ Ends (edge_of edge) ∷ []) }
+        ensures err { OnErr result (self.new.pieces ≡ self.old.pieces) }
+        ensures within { 3 ≤ spare_nodes self.old → length bytes.now ≤ spare_bytes self.old → IsOk result }
+        ensures room { (self.old.node_room ≤ self.new.node_room) × (self.old.byte_room ≤ self.new.byte_room) }
+    {
+        make_piece_room(&mut self.blocks, 3)?;
+        let start = add_bytes(&mut self.blocks.bytes, bytes)?;
+        self.blocks
+            .contents
+            .push_within(edge, Content::Bytes(start, start + bytes.len()));
+        Ok(())
+    }
+
     /// A leaf without bytes.
     fn hold(&mut self, content: Content) -> Result<(), AllocError>
         requires { (leaf : Leaf) × (plain_leaf content ≡ Some leaf) }

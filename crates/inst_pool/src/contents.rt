@@ -1,12 +1,12 @@
 //! A list of contents.
-ghost use Rattle.std.specs.Prelude.{◌≡◌, ◌<◌, ◌≤◌, ◌++◌, [], ◌∷◌, length, slice_get, Some, OnOk, vec_len, vec_capacity};
+ghost use Rattle.std.specs.Prelude.{◌≡◌, ◌+◌, ◌<◌, ◌≤◌, ◌++◌, [], ◌∷◌, length, slice_get, Some, OnOk, vec_len, vec_capacity};
 ghost use Rattle.std.specs.Option.{option_map};
 ghost use Rattle.inst_pool.specs.Contents.{piece_in, AreInside};
 ghost use Rattle.inst_pool.specs.Pieces.{piece_of, room_limit};
 
 use crate::content::Content;
-use crate::node::{Node, long_at, piece_of, shortened};
-use crate::piece::Piece;
+use crate::node::{Node, long_at, piece_of, short_edge, shortened};
+use crate::piece::{Edge, Piece};
 use crate::room::{lengthen, widen};
 use std::alloc::{AllocError, Global};
 use std::marker::Model;
@@ -97,6 +97,39 @@ impl Contents {
         self.nodes.push_reserved(long_at(place));
     }
 
+    /// Appends an element that begins, a content and the end of the element, for which there is room.
+    #[inline(always)]
+    pub(crate) fn push_within(&mut self, edge: Edge, content: Content)
+        requires room { length self.old.items + 3 ≤ self.old.room }
+        requires limit { length self.old.items + 3 ≤ room_limit }
+        ensures items { self.new.items ≡ self.old.items ++ Content.Open edge ∷ content ∷ Content.Close edge ∷ [] }
+        ensures room { self.new.room ≡ self.old.room }
+    {
+        let Some(short) = short_edge(edge) else {
+            self.push_each(edge, content);
+            return;
+        };
+        let Some(node) = shortened(&content) else {
+            self.push_each(edge, content);
+            return;
+        };
+        add_three(&mut self.nodes, Node::Open(short), node, Node::Close(short));
+    }
+
+    /// The same, of what need not fit in nodes.
+    #[cold]
+    #[inline(never)]
+    fn push_each(&mut self, edge: Edge, content: Content)
+        requires room { length self.old.items + 3 ≤ self.old.room }
+        requires limit { length self.old.items + 3 ≤ room_limit }
+        ensures items { self.new.items ≡ self.old.items ++ Content.Open edge ∷ content ∷ Content.Close edge ∷ [] }
+        ensures room { self.new.room ≡ self.old.room }
+    {
+        self.push(Content::Open(edge));
+        self.push(content);
+        self.push(Content::Close(edge));
+    }
+
     /// Leaves no content, and all the room.
     pub(crate) fn clear(&mut self)
         ensures items { self.new.items ≡ [] }
@@ -105,6 +138,18 @@ impl Contents {
         self.nodes.clear();
         self.long.clear();
     }
+}
+
+/// Appends three nodes, for which there is room.
+#[inline(always)]
+fn add_three(nodes: &mut Vec<Node>, first: Node, second: Node, third: Node)
+    requires { vec_len nodes.old + 3 ≤ vec_capacity nodes.old }
+    ensures items { nodes.new.items ≡ nodes.old.items ++ first ∷ second ∷ third ∷ [] }
+    ensures room { vec_capacity nodes.new ≡ vec_capacity nodes.old }
+{
+    nodes.push_reserved(first);
+    nodes.push_reserved(second);
+    nodes.push_reserved(third);
 }
 
 /// Appends a long content to its block.

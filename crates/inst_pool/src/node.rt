@@ -52,7 +52,7 @@ fn is_short(edge: Edge) -> bool
 
 /// The numbers of an edge, where they have 16 bits.
 #[inline(always)]
-fn short_edge(edge: Edge) -> Option<Short>
+pub(crate) fn short_edge(edge: Edge) -> Option<Short>
     ensures { IfSome result (λ s. edge_in s ≡ edge) }
 {
     if is_short(edge) {
