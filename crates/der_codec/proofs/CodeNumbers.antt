@@ -107,6 +107,13 @@ pub written : (octets : List ℕ) (d : ℕ) (ds : List ℕ) → IsInteger octets
 written octets d ds is bytes e low =
     e ∙ (is_written d ds (subst IsInteger e is) low (below (d ∷ ds) (subst IsBytes e bytes)) ∙ sym (ap (λ z. integer_octets (number_from_digits 256 z)) e))
 
+-- one octet is its own number
+pub one_octet : (d : ℕ) (octets behind : List ℕ) → octets ≡ d ∷ behind → length behind ≡ 0 → d < 128 → octets ≡ integer_octets d
+one_octet d octets [] e none low =
+    let own : number_from_digits 256 (d ∷ []) ≡ d = omega arith in
+    e ∙ is_written d [] tt low (omega (arith, low), tt) ∙ ap integer_octets own
+one_octet d octets (x ∷ behind) e none low = absurd cc
+
 pub no_greater : (octets : List ℕ) (d n value : ℕ) (ds : List ℕ) → IsInteger octets → IsBytes octets → octets ≡ d ∷ ds → d < 128 → value ≡ number_from_digits 256 octets → 2 ^ 32 ≤ value → n < 2 ^ 32 → octets ≡ integer_octets n → ⊥
 no_greater octets d n value ds is bytes e low v great small same =
     let number = integer_same n (number_from_digits 256 octets) (sym same ∙ written octets d ds is bytes e low) in

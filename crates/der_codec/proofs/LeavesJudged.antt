@@ -106,7 +106,7 @@ date_contents kind.Binary codes octets d is = absurd d
 date_contents kind.Envelope codes octets d is = absurd d
 date_contents k codes octets d is = (is, refl)
 
-date_leaf : (k : Kind) (octets : List ℕ) → IsDateKind k → IsDateText k octets → IsLeaf k octets (Bytes octets)
+pub date_leaf : (k : Kind) (octets : List ℕ) → IsDateKind k → IsDateText k octets → IsLeaf k octets (Bytes octets)
 date_leaf kind.Text octets d is = absurd d
 date_leaf kind.Decimal octets d is = absurd d
 date_leaf kind.Boolean octets d is = absurd d

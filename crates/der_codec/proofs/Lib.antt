@@ -3,6 +3,7 @@ pub mod Inwards
 pub mod Steps
 pub mod StepTies
 pub mod UsualSteps
+pub mod Runs
 pub mod Nested
 pub mod Counted
 pub mod Ends
@@ -16,6 +17,7 @@ pub mod PathsWritten
 pub mod Named
 pub mod PiecesOpen
 pub mod Growing
+pub mod LastSpots
 pub mod DueContents
 pub mod RoomFronts
 pub mod NoCuts
@@ -24,6 +26,7 @@ pub mod ContentsSteps
 pub mod Fed
 pub mod UsualFed
 pub mod TextLengths
+pub mod LeavesKnown
 pub mod ToldAtParts
 pub mod CutTexts
 pub mod CutContents

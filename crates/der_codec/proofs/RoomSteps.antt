@@ -139,7 +139,7 @@ same_spot types (spots.Value n) a b p q = p ∙ sym q
 same_spot types (spots.List n k) a b (s, f, p) (t, g, q) = (let same : s ≡ t = (let both = sym f ∙ g in cc) in p ∙ (ap (structures.ListOf n k) same ∙ sym q))
 same_spot types (spots.Number n) a b p q = p ∙ sym q
 
-last_same : (m : DerMessage ℕ) (spot : structures.Spot ℕ) (a b : List ℕ) → next_number a ≡ next_number b → last_elements m spot a ≡ last_elements m spot b
+pub last_same : (m : DerMessage ℕ) (spot : structures.Spot ℕ) (a b : List ℕ) → next_number a ≡ next_number b → last_elements m spot a ≡ last_elements m spot b
 last_same m spot [] [] e = refl
 last_same m spot [] (k ∷ b) e = absurd (omega (arith, e))
 last_same m spot (k ∷ a) [] e = absurd (omega (arith, e))

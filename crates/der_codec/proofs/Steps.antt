@@ -113,18 +113,24 @@ bad_length m xs c spot step start place bytes o r low none =
     (no_length m xs c spot step r.state r.at (r.rest ++ o ∷ []) r.is_open none) (length_rule m xs c spot step r.state r.is_open)
 
 -- an octet more of what is begun
+more_octets : (m : DerMessage ℕ) (xs : List Level) (d e : Due) (start place : ℕ) (bytes more : List ℕ) (r : Reads m xs d start place bytes) → IsOpenState m xs e r.state → IsBegun e r.state (r.rest ++ more) → (w : Reads m xs e start (place + length more) (bytes ++ more)) × (w.rest ≡ r.rest ++ more)
+more_octets m xs d e start place bytes more r op beg = (
+  record {
+    parts = r.parts;
+    state = r.state;
+    at = r.at;
+    rest = r.rest ++ more;
+    front = front_more m Start 0 bytes r.parts r.state r.at r.rest more r.front;
+    is_open = op;
+    is_begun = beg;
+    start_is = r.start_is;
+    place_is = (let sum = length-append r.rest more in let p = r.place_is in omega arith);
+  },
+  refl,
+)
+
 more_read : (m : DerMessage ℕ) (xs : List Level) (d e : Due) (start place : ℕ) (bytes : List ℕ) (o : ℕ) (r : Reads m xs d start place bytes) → IsOpenState m xs e r.state → IsBegun e r.state (r.rest ++ o ∷ []) → Reads m xs e start (place + 1) (bytes ++ o ∷ [])
-more_read m xs d e start place bytes o r op beg = record {
-  parts = r.parts;
-  state = r.state;
-  at = r.at;
-  rest = r.rest ++ o ∷ [];
-  front = front_more m Start 0 bytes r.parts r.state r.at r.rest (o ∷ []) r.front;
-  is_open = op;
-  is_begun = beg;
-  start_is = r.start_is;
-  place_is = (let sum = length-append r.rest (o ∷ []) in let p = r.place_is in omega arith);
-}
+more_read m xs d e start place bytes o r op beg = (more_octets m xs d e start place bytes (o ∷ []) r op beg).0
 
 same_tag : (m : DerMessage ℕ) (xs : List Level) (a b : TagStep) (s : State ℕ) → IsOpenState m xs (due.Tag a) s → IsOpenState m xs (due.Tag b) s
 same_tag m xs a b Start h = h
@@ -137,6 +143,10 @@ same_length m xs c spot a b s h = absurd h
 
 pub more_tag : (m : DerMessage ℕ) (xs : List Level) (a b : TagStep) (start place : ℕ) (bytes : List ℕ) (o : ℕ) (r : Reads m xs (due.Tag a) start place bytes) → tags.HasTakenTag b (r.rest ++ o ∷ []) → Reads m xs (due.Tag b) start (place + 1) (bytes ++ o ∷ [])
 more_tag m xs a b start place bytes o r h = more_read m xs (due.Tag a) (due.Tag b) start place bytes o r (same_tag m xs a b r.state r.is_open) h
+
+pub more_lengths : (m : DerMessage ℕ) (xs : List Level) (c : Bool) (spot : Spot) (a b : LengthStep) (start place : ℕ) (bytes more : List ℕ) (r : Reads m xs (due.Length c spot a) start place bytes) → lengths.HasTakenLength b (r.rest ++ more)
+    → (w : Reads m xs (due.Length c spot b) start (place + length more) (bytes ++ more)) × (w.rest ≡ r.rest ++ more)
+more_lengths m xs c spot a b start place bytes more r h = more_octets m xs (due.Length c spot a) (due.Length c spot b) start place bytes more r (same_length m xs c spot a b r.state r.is_open) h
 
 pub more_length : (m : DerMessage ℕ) (xs : List Level) (c : Bool) (spot : Spot) (a b : LengthStep) (start place : ℕ) (bytes : List ℕ) (o : ℕ) (r : Reads m xs (due.Length c spot a) start place bytes) → lengths.HasTakenLength b (r.rest ++ o ∷ []) → Reads m xs (due.Length c spot b) start (place + 1) (bytes ++ o ∷ [])
 more_length m xs c spot a b start place bytes o r h = more_read m xs (due.Length c spot a) (due.Length c spot b) start place bytes o r (same_length m xs c spot a b r.state r.is_open) h

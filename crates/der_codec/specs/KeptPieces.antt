@@ -1,11 +1,12 @@
 -- The pieces that are kept of what was read, where pieces are kept. Private functions alone cite this.
-use Rattle.std.specs.Prelude.{◌≡◌, ℕ, List, [], ◌∷◌, ◌++◌, Option, Some, None}
+use Rattle.std.specs.Prelude.{◌≡◌, ℕ, List, [], ◌∷◌, ◌++◌, Option, Some, None, slice_get}
 use Rattle.data_types.specs.Leaf.{Leaf}
 use Rattle.data_types.specs.Value.{Edge, Piece, Holds}
 use Rattle.inst_pool.specs.Pieces.{Region, open_in}
 use Rattle.der_model.specs.DerMessage.{DerMessage}
 use Rattle.der_model.specs.Structures as structures
-use Rattle.der_model.specs.Structures.{structure}
+use Rattle.der_model.specs.Structures.{Component, structure}
+use Rattle.der_model.specs.OpenParts.{components_of}
 use Rattle.der_model.specs.States as states
 use Rattle.der_model.specs.States.{State, Start, AwaitsLength, AwaitsContents, Within}
 use Rattle.der_model.specs.ShownPieces.{PartsShow, begin_each, end_each, last_elements, elements_ended}
@@ -69,6 +70,15 @@ GoesOnByLeaf m spot octets old new = (leaf : Leaf) × HoldsLeafAt m spot octets 
 -- the elements that began with the last component of the value at this level
 abbrev pub AreLast : DerMessage ℕ → Level → List Edge → Type 0
 AreLast m around edges = (l : states.DerLevel ℕ) → IsLevel m.forms around l → edges ≡ last_elements m l.spot l.came
+
+-- the value at the spot is the last of these components that came
+abbrev pub IsLastOf : List (Component ℕ) → List ℕ → structures.Spot ℕ → Type 0
+IsLastOf cs [] spot = ⊥
+IsLastOf cs (k ∷ came) spot = (c : Component ℕ) × (slice_get cs k ≡ Some c) × (spot ≡ c.spot)
+
+-- the value at the spot is the component that came last in the value at this level
+abbrev pub IsLastSpot : DerMessage ℕ → Level → Spot → Type 0
+IsLastSpot m around spot = (l : states.DerLevel ℕ) × IsLevel m.forms around l × (of : structures.Spot ℕ) × IsSpot m.forms spot of × IsLastOf (components_of (structure m l.spot)) l.came of
 
 -- behind pieces the elements begin of the last component of the value at this level
 abbrev pub ShowsBegun : DerMessage ℕ → Level → List Piece → List Piece → Type 0

@@ -1,6 +1,8 @@
 -- What private functions alone cite, in reading order.
 pub mod PlainOctets
 pub mod Entering
+pub mod Runs
 pub mod Nesting
 pub mod OpenNames
 pub mod Elements
+pub mod KnownLeaves

@@ -1,10 +1,12 @@
 //! Checks of leaves that are kept for the next leaf of their type.
-ghost use Rattle.std.specs.Prelude.{◌≡◌, ◌+◌, ◌<◌, ◌≤◌, [], ℕ, List, length, true, Some, None, IsOk, IfOk, OnOk, IsErrOf, IsFalse};
+ghost use Rattle.std.specs.Prelude.{◌≡◌, ◌+◌, ◌<◌, ◌≤◌, [], ℕ, List, length, true, Some, None, IsOk, IfOk, OnOk, IsErrOf, IsFalse, IsTrue};
 ghost use Rattle.std.specs.Option.{is_some};
 ghost use Rattle.lexical_core.specs.XmlRuns.{IsXmlRun};
+ghost use Rattle.data_types.specs.Leaf.{Leaf};
 ghost use Rattle.facets.specs.declared.simple.Simple.{Simple as SimpleType};
 ghost use Rattle.facets.specs.LeafChecks.{IsWithinLimits};
-ghost use Rattle.facets.specs.LeafVerdicts.{HasVerdictTaken, IsVerdictMadeFor, verdict_room};
+ghost use Rattle.facets.specs.LeafUnder.{GivesLeaf};
+ghost use Rattle.facets.specs.LeafVerdicts.{HasVerdictTaken, IsVerdictMadeFor, IsFreeText, verdict_room};
 ghost use Rattle.reference_check.specs.Forms.{Graph, text_type};
 ghost use Rattle.message_model.specs.Tables.{types_of};
 ghost use Rattle.der_codec.specs.Checked.{ChecksType, ChecksIfAny, CheckTypes, IsToldOf};
@@ -98,6 +100,25 @@ impl Checks {
         let result = told_by(&mut check, simple, run, count);
         self.keep(number, check);
         result
+    }
+
+    /// Whether it is known without a step of the check that a run of so many characters is a leaf under the simple type
+    /// without codes, which is that of this number. Where it is false nothing is known.
+    #[inline]
+    pub(crate) fn knows(&self, number: u32, simple: &Simple, run: &[u8], count: usize) -> bool
+        requires run { IsXmlRun run.now count }
+        requires free { IsFreeText simple.now }
+        requires made { (types : Graph ℕ SimpleType) × (text_type (types number) ≡ Some simple.now) × CheckTypes types self.now }
+        ensures { (r : IsXmlRun run.now count) → IsTrue result → (leaf : Leaf) × GivesLeaf simple.now r.chars leaf }
+    {
+        let at = number as usize;
+        if at >= self.entries.len() {
+            return false;
+        }
+        match &self.entries[at] {
+            Some(check) => check.knows(simple, run, count),
+            None => false,
+        }
     }
 
     /// The check of the simple type, which is that of this number, before the first character. It is no longer kept here.

@@ -43,9 +43,9 @@ pub enum Found {
 
 /// A slot of a type by its number, and what comes in it.
 #[derive(Clone, Copy, Debug)]
-struct Field {
-    number: u16,
-    spot: Spot,
+pub(crate) struct Field {
+    pub(crate) number: u16,
+    pub(crate) spot: Spot,
 }
 
 /// A tag that may not stand here, which adds nothing to the path.
@@ -297,6 +297,42 @@ pub fn identify(model: &Model, level: &Level, id: Identifier) -> Found
         Spot::Value(number) => in_type(model, number, level.next, id),
         Spot::List { parent, slot } => in_list(model, parent, slot, level.count, id),
         Spot::Number(_) => unexpected(),
+    }
+}
+
+/// The component of a sequence under this identifier, where it may come next; `None` where the open value is no sequence,
+/// or a rule is broken.
+#[inline(always)]
+pub(crate) fn field_begun(model: &Model, level: &Level, id: Identifier) -> Option<Field>
+    ensures { IfSome result (λ field. (fragment : Tree → List ℕ) (l : states.DerLevel ℕ) → IsLevel (types_of model.now) level.now l
+        → IsFound (types_of model.now) (Found.Begins field.number field.spot) (level_answer (in_der fragment (message_of model.now)) l id.constructed (tag_view id))) }
+{
+    match level.spot {
+        Spot::Value(number) => field_of_type(model, number, level.next, id),
+        _ => None,
+    }
+}
+
+/// The same in a value of a type, whose next component has this number.
+#[inline(always)]
+fn field_of_type(model: &Model, number: u32, next: u32, id: Identifier) -> Option<Field>
+    ensures { IfSome result (λ field. (fragment : Tree → List ℕ) (came : List ℕ) → next ≡ next_number came
+        → IsFound (types_of model.now) (Found.Begins field.number field.spot) (states.identifier_answer (structure (in_der fragment (message_of model.now)) (structures.Value number)) came id.constructed (tag_view id))) }
+{
+    match model.form(number) {
+        Some(Form::Sequence) => field_of_sequence(model, number, next, id),
+        _ => None,
+    }
+}
+
+/// The same in a sequence.
+#[inline(always)]
+fn field_of_sequence(model: &Model, number: u32, next: u32, id: Identifier) -> Option<Field>
+    ensures { IfSome result (λ field. IsFound (types_of model.now) (Found.Begins field.number field.spot) (field_answer next (drop next (components (types_of model.now) number 0 (form_slots (types_of model.now number)))) id.constructed (tag_view id))) }
+{
+    match in_fields(model, number, next, id) {
+        Found::Begins { number, spot } => Some(Field { number, spot }),
+        Found::Breaks { rule: _, added: _ } => None,
     }
 }
 

@@ -1,6 +1,7 @@
 //! The contents of primitive values: X.690 §8.1.4.
-ghost use Rattle.std.specs.Prelude.{◌≡◌, ◌<◌, ◌≤◌, ◌^◌, ◌∷◌, [], ℕ, length, true, false, IsOk, IfOk, IsErrOf};
+ghost use Rattle.std.specs.Prelude.{◌≡◌, ◌<◌, ◌≤◌, ◌^◌, ◌∷◌, [], ℕ, length, true, false, IsOk, IfOk, OnOk, IsErrOf};
 ghost use Rattle.data_types.specs.Leaf.{Leaf};
+ghost use Rattle.data_types.specs.LeafAnswers.{leaf_of};
 ghost use Rattle.data_types.specs.Value.{Holds as HoldsPiece};
 ghost use Rattle.fragments.specs.Fragment.{fragment};
 ghost use Rattle.message_model.specs.Tables.{types_of};
@@ -9,12 +10,13 @@ ghost use Rattle.der_model.specs.Structures as structures;
 ghost use Rattle.der_model.specs.Structures.{structure, Holds, Fragment};
 ghost use Rattle.der_model.specs.OpenParts.{IsPrimitive};
 ghost use Rattle.der_codec.specs.Checked.{CheckTypes};
-ghost use Rattle.der_codec.specs.KeptPieces.{HoldsLeafAt, GoesOnByLeaf, GoesOnByLast, StaysAlone};
+ghost use Rattle.der_codec.specs.KeptPieces.{HoldsLeafAt, GoesOnByLeaf, GoesOnByLast, GoOnByLeaf, IsLastSpot, StaysAlone};
 ghost use Rattle.der_codec.specs.Reserved.{HasChecks, GrowsRoom, HoldMore, HoldLeafWithin, IsPrimitiveType, IsPrimitiveAt};
 ghost use Rattle.der_codec.specs.Rooms.{HasNoEnvelopes};
 ghost use Rattle.der_codec.specs.Judging.{HoldsContents, IsJudgedAt, IsJudgedFor, IsVerdictFor};
 
 use crate::checks::{Checks, Refusal};
+use crate::known::{Known, is_amount, known_at};
 use crate::leaves::judge_simple;
 use crate::level::{Level, Spot};
 use crate::pieces::{hold, hold_last};
@@ -92,6 +94,36 @@ pub(crate) fn tell_last(
 ) -> Result<bool, AllocError>
     requires short { length octets.now < 2 ^ 40 }
     requires made { CheckTypes (types_of model.now) checks.old }
+    requires last { IsLastSpot (der_message model.now) around.now spot }
+    ensures made { CheckTypes (types_of model.now) checks.new }
+    ensures same { IfOk result (λ told. told ≡ false → pieces.new ≡ pieces.old) }
+    ensures held { IfOk result (λ told. told ≡ true → HoldsContents (der_message model.now) spot octets.now) }
+    ensures shown { IfOk result (λ told. told ≡ true → GoesOnByLast (der_message model.now) around.now spot octets.now pieces.old pieces.new) }
+    ensures room { (bytes : ℕ) → HasChecks (types_of model.now) bytes checks.old → HasChecks (types_of model.now) bytes checks.new }
+    ensures grows { GrowsRoom pieces.old pieces.new }
+    ensures alone { StaysAlone pieces.old pieces.new }
+    ensures within { ((leaf : Leaf) → HoldsLeafAt (der_message model.now) spot octets.now leaf → HoldLeafWithin (der_message model.now) around.now leaf pieces.old) → IsOk result }
+{
+    match known_at(checks, model, spot, octets) {
+        Known::Octets => hold_known(pieces, model, around, spot, &LeafRef::Bytes(octets)),
+        Known::Code(place) => hold_known(pieces, model, around, spot, &LeafRef::Code(place)),
+        Known::Nothing => tell_any_last(checks, pieces, model, around, spot, octets),
+    }
+}
+
+/// The same of any contents.
+#[inline(never)]
+fn tell_any_last(
+    checks: &mut Checks,
+    pieces: &mut Option<Builder>,
+    model: &Model,
+    around: &Level,
+    spot: Spot,
+    octets: &[u8],
+) -> Result<bool, AllocError>
+    requires short { length octets.now < 2 ^ 40 }
+    requires made { CheckTypes (types_of model.now) checks.old }
+    requires last { IsLastSpot (der_message model.now) around.now spot }
     ensures made { CheckTypes (types_of model.now) checks.new }
     ensures same { IfOk result (λ told. told ≡ false → pieces.new ≡ pieces.old) }
     ensures held { IfOk result (λ told. told ≡ true → HoldsContents (der_message model.now) spot octets.now) }
@@ -102,7 +134,7 @@ pub(crate) fn tell_last(
     ensures within { ((leaf : Leaf) → HoldsLeafAt (der_message model.now) spot octets.now leaf → HoldLeafWithin (der_message model.now) around.now leaf pieces.old) → IsOk result }
 {
     match judge(checks, model, spot, octets) {
-        Ok(leaf) => match hold_last(pieces, model, around, &leaf) {
+        Ok(leaf) => match hold_last(pieces, model, around, spot, &leaf) {
             Ok(()) => Ok(true),
             Err(error) => Err(error),
         },
@@ -110,9 +142,60 @@ pub(crate) fn tell_last(
     }
 }
 
+/// A leaf that breaks no rule comes, which is the last component of an open value.
+#[inline(always)]
+fn hold_known(
+    pieces: &mut Option<Builder>,
+    model: &Model,
+    around: &Level,
+    spot: Spot,
+    leaf: &LeafRef<'_>,
+) -> Result<bool, AllocError>
+    requires { IsLastSpot (der_message model.now) around.now spot }
+    ensures told { IfOk result (λ told. told ≡ true) }
+    ensures held { OnOk result (GoOnByLeaf (der_message model.now) around.now (leaf_of leaf.now) pieces.old pieces.new) }
+    ensures room { GrowsRoom pieces.old pieces.new }
+    ensures alone { StaysAlone pieces.old pieces.new }
+    ensures within { HoldLeafWithin (der_message model.now) around.now (leaf_of leaf.now) pieces.old → IsOk result }
+{
+    match hold_last(pieces, model, around, spot, leaf) {
+        Ok(()) => Ok(true),
+        Err(error) => Err(error),
+    }
+}
+
 /// Whether octets are contents of a primitive value, and so break no rule.
 #[inline(always)]
 pub(crate) fn are_contents(checks: &mut Checks, model: &Model, spot: Spot, octets: &[u8]) -> bool
+    requires short { length octets.now < 2 ^ 40 }
+    requires made { CheckTypes (types_of model.now) checks.old }
+    ensures made { CheckTypes (types_of model.now) checks.new }
+    ensures held { result ≡ true → HoldsContents (der_message model.now) spot octets.now }
+{
+    match known_at(checks, model, spot, octets) {
+        Known::Octets => true,
+        Known::Code(_place) => true,
+        Known::Nothing => are_other_contents(checks, model, spot, octets),
+    }
+}
+
+/// The same of octets that are not known at a look.
+#[inline(never)]
+fn are_other_contents(checks: &mut Checks, model: &Model, spot: Spot, octets: &[u8]) -> bool
+    requires short { length octets.now < 2 ^ 40 }
+    requires made { CheckTypes (types_of model.now) checks.old }
+    ensures made { CheckTypes (types_of model.now) checks.new }
+    ensures held { result ≡ true → HoldsContents (der_message model.now) spot octets.now }
+{
+    match spot {
+        Spot::Number(number) => is_amount(model, number, octets),
+        _ => are_any_contents(checks, model, spot, octets),
+    }
+}
+
+/// The same of any octets.
+#[inline(never)]
+fn are_any_contents(checks: &mut Checks, model: &Model, spot: Spot, octets: &[u8]) -> bool
     requires short { length octets.now < 2 ^ 40 }
     requires made { CheckTypes (types_of model.now) checks.old }
     ensures made { CheckTypes (types_of model.now) checks.new }

@@ -7,21 +7,24 @@ ghost use Rattle.reference_check.specs.Forms as graph;
 ghost use Rattle.reference_check.specs.Forms.{form_slots};
 ghost use Rattle.message_model.specs.Tables.{types_of};
 ghost use Rattle.der_model.specs.DerMessage.{der_message};
+ghost use Rattle.der_model.specs.OpenParts.{components_of};
 ghost use Rattle.der_model.specs.Structures as structures;
+ghost use Rattle.der_model.specs.Structures.{structure};
 ghost use Rattle.der_model.specs.States as states;
+ghost use Rattle.der_model.specs.States.{next_number};
 ghost use Rattle.der_model.specs.ShownPieces.{begin_each, end_each, slot_elements, alternatives_of, component_elements, last_elements, elements_ended};
 ghost use Rattle.der_model.specs.NestedPieces.{elements_around};
 ghost use Rattle.der_codec.specs.Levels.{IsSpot, IsLevel, AreLevels, first_of};
-ghost use Rattle.der_codec.specs.KeptPieces.{ShowsBegun, ShowsLeaf};
+ghost use Rattle.der_codec.specs.KeptPieces.{AreLast, IsLastOf, IsLastSpot, ShowsBegun, ShowsLeaf};
 ghost use Rattle.der_codec.specs.Reserved.{GrowsRoom, HoldsMore, HoldsBegun, HoldsLeafWithin};
-ghost use Rattle.der_codec.specs.inner.Elements.{edge_if, edges_of};
+ghost use Rattle.der_codec.specs.inner.Elements.{edge_if, edges_of, has_slots};
 
 use crate::components::is_choice;
 use crate::level::{Level, Spot};
 use data_types::LeafRef;
 use der_model::comes_once;
 use inst_pool::{Builder, Edge};
-use message_model::Model;
+use message_model::{Form, Model};
 use std::alloc::AllocError;
 
 /// The elements that begin with a component. Of an item of a list that is a choice there are two: that of the
@@ -112,6 +115,62 @@ fn last_begun(model: &Model, level: &Level) -> Elements
     elements_at(model, level.spot, level.next - 1)
 }
 
+/// Whether what comes in a value of the type comes in slots.
+fn has_slots(model: &Model, number: u32) -> bool
+    ensures { result ≡ has_slots (types_of model.now number) }
+{
+    match model.form(number) {
+        Some(Form::Sequence) => true,
+        Some(Form::Choice) => true,
+        _ => false,
+    }
+}
+
+/// The element of a component that is a value of the target; the code of an amount is none.
+#[inline(always)]
+fn target_element(model: &Model, parent: u32, slot: u32, target: u32) -> Option<Edge>
+    ensures { (c : structures.Component ℕ) → slice_get (components_of (structure (der_message model.now) (structures.Value parent))) slot ≡ Some c → c.spot ≡ structures.Value target
+        → edge_if result ≡ component_elements (der_message model.now) (structures.Value parent) slot }
+{
+    if !has_slots(model, parent) {
+        return None;
+    }
+    Some(Edge {
+        slot,
+        target,
+        parent,
+    })
+}
+
+/// The element of the value at the spot, which is the last component of a value of the type, where there is one.
+#[inline(always)]
+fn value_element(model: &Model, parent: u32, next: u32, spot: Spot) -> Option<Edge>
+    ensures { (of : structures.Spot ℕ) (came : List ℕ) → IsSpot (types_of model.now) spot of → next ≡ next_number came → IsLastOf (components_of (structure (der_message model.now) (structures.Value parent))) came of
+        → edge_if result ≡ last_elements (der_message model.now) (structures.Value parent) came }
+{
+    if next == 0 {
+        return None;
+    }
+    match spot {
+        Spot::Value(target) => target_element(model, parent, next - 1, target),
+        Spot::Instance => None,
+        Spot::List { parent: _, slot: _ } => None,
+        Spot::Number(_) => None,
+    }
+}
+
+/// The elements that began with the component of an open value that came last, which is the value at the spot.
+#[inline(always)]
+fn begun_with(model: &Model, level: &Level, spot: Spot) -> Elements
+    requires { IsLastSpot (der_message model.now) level.now spot }
+    ensures { AreLast (der_message model.now) level.now (edges_of result) }
+{
+    match level.spot {
+        Spot::Value(parent) => one_element(value_element(model, parent, level.next, spot)),
+        _ => last_begun(model, level),
+    }
+}
+
 /// An element begins, where there is one.
 #[inline(always)]
 fn begin_one(builder: &mut Builder, element: Option<Edge>) -> Result<(), AllocError>
@@ -160,12 +219,14 @@ pub(crate) fn begin_last(
     builder: &mut Builder,
     model: &Model,
     around: &Level,
+    spot: Spot,
 ) -> Result<(), AllocError>
+    requires { IsLastSpot (der_message model.now) around.now spot }
     ensures begun { OnOk result (ShowsBegun (der_message model.now) around.now builder.old.pieces builder.new.pieces) }
     ensures room { GrowsRoom (Some builder.old) (Some builder.new) }
     ensures within { HoldsBegun (der_message model.now) around.now builder.old → IsOk result }
 {
-    let begun = last_begun(model, around);
+    let begun = begun_with(model, around, spot);
     begin_elements(builder, &begun)
 }
 
@@ -175,13 +236,15 @@ pub(crate) fn hold_last(
     builder: &mut Builder,
     model: &Model,
     around: &Level,
+    spot: Spot,
     leaf: &LeafRef<'_>,
 ) -> Result<(), AllocError>
+    requires { IsLastSpot (der_message model.now) around.now spot }
     ensures held { OnOk result (ShowsLeaf (der_message model.now) around.now (leaf_of leaf.now) builder.old.pieces builder.new.pieces) }
     ensures room { GrowsRoom (Some builder.old) (Some builder.new) }
     ensures within { HoldsLeafWithin (der_message model.now) around.now (leaf_of leaf.now) builder.old → IsOk result }
 {
-    let begun = last_begun(model, around);
+    let begun = begun_with(model, around, spot);
     hold_within(builder, &begun, leaf)
 }
 
@@ -192,6 +255,36 @@ fn hold_within(
     begun: &Elements,
     leaf: &LeafRef<'_>,
 ) -> Result<(), AllocError>
+    ensures held { OnOk result (builder.new.pieces ≡ builder.old.pieces ++ (begin_each (edges_of begun.now) ++ Holds (leaf_of leaf.now) ∷ end_each (edges_of begun.now))) }
+    ensures room { GrowsRoom (Some builder.old) (Some builder.new) }
+    ensures within { HoldsMore builder.old (begin_each (edges_of begun.now) ++ Holds (leaf_of leaf.now) ∷ end_each (edges_of begun.now)) → IsOk result }
+{
+    match begun.inner {
+        Some(_) => hold_parts(builder, begun, leaf),
+        None => hold_in(builder, begun.outer, leaf),
+    }
+}
+
+/// A leaf comes within an element that begins and ends with it, where there is one.
+#[inline(always)]
+fn hold_in(
+    builder: &mut Builder,
+    element: Option<Edge>,
+    leaf: &LeafRef<'_>,
+) -> Result<(), AllocError>
+    ensures held { OnOk result (builder.new.pieces ≡ builder.old.pieces ++ (begin_each (edge_if element) ++ Holds (leaf_of leaf.now) ∷ end_each (edge_if element))) }
+    ensures room { GrowsRoom (Some builder.old) (Some builder.new) }
+    ensures within { HoldsMore builder.old (begin_each (edge_if element) ++ Holds (leaf_of leaf.now) ∷ end_each (edge_if element)) → IsOk result }
+{
+    match element {
+        Some(edge) => builder.leaf_within(edge, leaf),
+        None => append(builder, leaf),
+    }
+}
+
+/// The same of any elements, one piece after the other.
+#[inline(never)]
+fn hold_parts(builder: &mut Builder, begun: &Elements, leaf: &LeafRef<'_>) -> Result<(), AllocError>
     ensures held { OnOk result (builder.new.pieces ≡ builder.old.pieces ++ (begin_each (edges_of begun.now) ++ Holds (leaf_of leaf.now) ∷ end_each (edges_of begun.now))) }
     ensures room { GrowsRoom (Some builder.old) (Some builder.new) }
     ensures within { HoldsMore builder.old (begin_each (edges_of begun.now) ++ Holds (leaf_of leaf.now) ∷ end_each (edges_of begun.now)) → IsOk result }

@@ -63,7 +63,7 @@ fn judge_binary<'a>(simple: &Simple, octets: &'a [u8]) -> Result<LeafRef<'a>, Re
 
 /// A number: §8.5, §11.3.
 #[inline(always)]
-fn judge_decimal<'a>(simple: &Simple, octets: &'a [u8]) -> Result<LeafRef<'a>, Refusal>
+pub(crate) fn judge_decimal<'a>(simple: &Simple, octets: &'a [u8]) -> Result<LeafRef<'a>, Refusal>
     requires { simple.now.kind ≡ kind.Decimal }
     ensures judged { IsJudged simple.now octets.now result }
     ensures never { IsErrOf result Refusal.Memory → ⊥ }
@@ -204,7 +204,7 @@ fn no_date(octets: &[u8]) -> Rule
 
 /// How many characters of XML the octets are in UTF-8; `None` where they are something else. Mostly each is one by itself.
 #[inline(always)]
-fn characters(octets: &[u8]) -> Option<usize>
+pub(crate) fn characters(octets: &[u8]) -> Option<usize>
     ensures some { IfSome result (λ count. IsXmlRun octets.now count) }
     ensures none { IfNone result (IsXmlText octets.now → ⊥) }
 {
@@ -261,7 +261,7 @@ fn judge_code<'a>(simple: &Simple, codes: &Codes, octets: &'a [u8]) -> Result<Le
 }
 
 /// Whether the code of this place is there, and a text of characters of XML.
-fn is_code(codes: &Codes, place: u32) -> bool
+pub(crate) fn is_code(codes: &Codes, place: u32) -> bool
     ensures { IsTrue result ↔ IsXmlCode codes.now place }
 {
     let Some(text) = codes.get(place as usize) else {

@@ -7,13 +7,13 @@ ghost use Rattle.der_model.specs.DerMessage.{der_message};
 ghost use Rattle.der_model.specs.NestedPieces.{elements_around};
 ghost use Rattle.der_model.specs.ShownPieces.{begin_each, end_each, elements_ended};
 ghost use Rattle.der_model.specs.States as states;
-ghost use Rattle.der_codec.specs.KeptPieces.{PiecesGoOn, GoOnByBegun, GoOnByLeaf, AreOpen, StaysAlone};
+ghost use Rattle.der_codec.specs.KeptPieces.{PiecesGoOn, GoOnByBegun, GoOnByLeaf, AreOpen, IsLastSpot, StaysAlone};
 ghost use Rattle.der_codec.specs.Levels.{AreLevels, inwards};
 ghost use Rattle.der_codec.specs.Reserved.{GrowsRoom, HoldMore, HoldBegun, HoldLeafWithin};
 
 use crate::decoder::Decoder;
 use crate::elements::{self, append, begin_component, end_component};
-use crate::level::Level;
+use crate::level::{Level, Spot};
 use data_types::LeafRef;
 use inst_pool::Builder;
 use message_model::Model;
@@ -77,7 +77,9 @@ pub(crate) fn begin_last(
     pieces: &mut Option<Builder>,
     model: &Model,
     around: &Level,
+    spot: Spot,
 ) -> Result<(), AllocError>
+    requires { IsLastSpot (der_message model.now) around.now spot }
     ensures begun { OnOk result (GoOnByBegun (der_message model.now) around.now pieces.old pieces.new) }
     ensures room { GrowsRoom pieces.old pieces.new }
     ensures alone { StaysAlone pieces.old pieces.new }
@@ -85,7 +87,7 @@ pub(crate) fn begin_last(
 {
     match pieces {
         None => Ok(()),
-        Some(builder) => elements::begin_last(builder, model, around),
+        Some(builder) => elements::begin_last(builder, model, around, spot),
     }
 }
 
@@ -95,8 +97,10 @@ pub(crate) fn hold_last(
     pieces: &mut Option<Builder>,
     model: &Model,
     around: &Level,
+    spot: Spot,
     leaf: &LeafRef<'_>,
 ) -> Result<(), AllocError>
+    requires { IsLastSpot (der_message model.now) around.now spot }
     ensures held { OnOk result (GoOnByLeaf (der_message model.now) around.now (leaf_of leaf.now) pieces.old pieces.new) }
     ensures room { GrowsRoom pieces.old pieces.new }
     ensures alone { StaysAlone pieces.old pieces.new }
@@ -104,6 +108,6 @@ pub(crate) fn hold_last(
 {
     match pieces {
         None => Ok(()),
-        Some(builder) => elements::hold_last(builder, model, around, leaf),
+        Some(builder) => elements::hold_last(builder, model, around, spot, leaf),
     }
 }

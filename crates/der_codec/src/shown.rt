@@ -131,7 +131,7 @@ impl DerChecker {
         let place = self.decoder.place + 2;
         self.decoder
             .enter_at(begun.around, begun.spot, place, begun.end);
-        match begin_last(&mut self.pieces, model, &begun.around) {
+        match begin_last(&mut self.pieces, model, &begun.around, begun.spot) {
             Err(_) => Err(Stop::Memory),
             Ok(()) => match self.end_here(model) {
                 Ok(()) => Ok(2),

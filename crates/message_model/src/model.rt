@@ -195,6 +195,7 @@ impl Model {
     }
 
     /// An element of a component or a choice; `None` where the type has none of this number.
+    #[inline(always)]
     pub fn slot(&self, number: u32, at: u32) -> Option<Slot<'_>>
         ensures { slot_view result ≡ slice_get (form_slots (types_of self.now number)) at }
     {

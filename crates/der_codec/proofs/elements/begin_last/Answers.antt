@@ -3,7 +3,7 @@ use Rattle.der_codec.proofs.PiecesOpen.{on_ok_when}
 use Rattle.der_codec.proofs.elements.begin_last.Goals as goal
 
 pub returns-clause-begun : goal.returns-clause-begun
-returns-clause-begun c = on_ok_when c.begin_elements.result _ _ c.begin_elements.ensures.begun (λ is. (edges_of c.last_begun-begun.result, λ l k. c.last_begun-begun.ensures l k, is))
+returns-clause-begun c = on_ok_when c.begin_elements.result _ _ c.begin_elements.ensures.begun (λ is. (edges_of c.begun_with-begun.result, c.begun_with-begun.ensures, is))
 
 pub returns-clause-within : goal.returns-clause-within
-returns-clause-within c = λ h. c.begin_elements.ensures.within (h (edges_of c.last_begun-begun.result) (λ l k. c.last_begun-begun.ensures l k))
+returns-clause-within c = λ h. c.begin_elements.ensures.within (h (edges_of c.begun_with-begun.result) c.begun_with-begun.ensures)

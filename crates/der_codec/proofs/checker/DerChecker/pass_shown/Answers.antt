@@ -1,10 +1,18 @@
 use Rattle.std.proofs.Common.{◌+◌, ◌++◌, length, take, drop, refl, ap, arith}
+use Rattle.der_model.specs.DerMessage.{der_message}
 use Rattle.der_codec.proofs.Fed.{taken_front, stopped_front, joined}
 use Rattle.der_codec.proofs.UsualFed.{fed_as, none_front_as, passed}
 use Rattle.der_codec.proofs.Keeping.{keeping_as, enough_less, enough_then, behind_is, err_as, not_ok}
+use Rattle.der_codec.proofs.LastSpots.{last_begun_spot}
 use Rattle.der_codec.proofs.RoomSteps.{leaf_enough}
 use Rattle.der_codec.specs.declared.checker.DerChecker.{DerChecker}
 use Rattle.der_codec.proofs.checker.DerChecker.pass_shown.Goals as goal
+
+pub tell_last-requires-clause-last : goal.tell_last-requires-clause-last
+tell_last-requires-clause-last c =
+    let g = c.requires.given in
+    let b = (c.requires.stands g.0 g.1).begun in
+    last_begun_spot (der_message c.args.model.now) c.args.begun.around _ c.args.begun.constructed c.args.begun.spot b.step _ _ _ b.read
 
 pub end_here-requires-clause-given : goal.end_here-requires-clause-given
 end_here-requires-clause-given c =

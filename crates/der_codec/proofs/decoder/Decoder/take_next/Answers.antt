@@ -1,6 +1,6 @@
 use Rattle.std.proofs.Common.{◌++◌, length, sym, ap, subst, arith}
 use Rattle.der_model.specs.DerMessage.{der_message}
-use Rattle.der_codec.specs.Decoding.{HasReadParts}
+use Rattle.der_codec.specs.inner.Runs.{RunReads}
 use Rattle.der_codec.proofs.UsualSteps.{front_more}
 use Rattle.der_codec.proofs.decoder.Decoder.take_next.Goals as goal
 
@@ -14,7 +14,7 @@ take_usual-requires-clause-room c =
 pub returns-in-Some-take_usual-clause-ok : goal.returns-in-Some-take_usual-clause-ok
 returns-in-Some-take_usual-clause-ok c = λ bytes r.
     let m = der_message c.args.model.now in
-    subst (λ z. HasReadParts m c.take_usual.new.self (bytes ++ z)) (sym (front_more c.args.piece.now c.in-Some.behind.now c.in-Some-split_first.contents.now c.in-Some.first.now c.in-Some-split_first.second.now c.in-Some-take_usual.count c.in-Some.ensures.cases.0 c.in-Some-split_first.ensures.cases.0))
+    subst (λ z. RunReads m c.take_usual.new.self c.take_usual.new.run (bytes ++ z)) (sym (front_more c.args.piece.now c.in-Some.others.now c.in-Some-split_first.behind.now c.in-Some.first.now c.in-Some-split_first.second.now c.in-Some-take_usual.count c.in-Some.ensures.cases.0 c.in-Some-split_first.ensures.cases.0))
     (c.in-Some-take_usual.ensures.ok bytes r)
 
 pub returns-in-Some-take_usual-clause-within : goal.returns-in-Some-take_usual-clause-within

@@ -3,7 +3,7 @@ use Rattle.der_model.specs.DerMessage.{der_message}
 use Rattle.der_model.specs.Structures.{structure}
 use Rattle.der_codec.proofs.ContentsJudged.{holds}
 use Rattle.der_codec.proofs.Keeping.{grows_same}
-use Rattle.der_codec.proofs.contents.tell_last.Goals as goal
+use Rattle.der_codec.proofs.contents.tell_any_last.Goals as goal
 
 pub returns-in-Ok-hold_last-clause-held : goal.returns-in-Ok-hold_last-clause-held
 returns-in-Ok-hold_last-clause-held c = λ e of at.
