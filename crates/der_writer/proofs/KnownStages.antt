@@ -1,5 +1,5 @@
--- The pass knows one piece more: what it kept beside the pieces behind stays, and what it keeps beside this one is known.
-use Rattle.std.proofs.Common.{◌≡◌, ◌≢◌, ℕ, zero, suc, ◌+◌, ◌≤◌, ◌<◌, true, false, List, [], ◌∷◌, length, drop, Option, Some, None, refl, sym, ap, ap₂, ◌∙◌, subst, arith, add-one}
+-- The pass knows one piece more: what it kept of the pieces behind stays, and what it keeps of this one is known.
+use Rattle.std.proofs.Common.{◌≡◌, ◌≢◌, ℕ, zero, suc, ◌+◌, ◌-◌, ◌≤◌, ◌<◌, true, false, List, [], ◌∷◌, length, drop, Option, Some, None, refl, sym, ap, ap₂, ◌∙◌, subst, arith, add-one}
 use Rattle.std.specs.Prelude.{slice_get, slice_index, slice_set, ◌==◌}
 use Rattle.std.proofs.lemmas.List.{get_or-set_same, get_or-set_other}
 use Rattle.std.proofs.lemmas.Bool.Decides.{nat_tests}
@@ -10,41 +10,59 @@ use Rattle.facets.specs.declared.simple.Simple.{Simple}
 use Rattle.inst_pool.specs.Pieces.{Held, piece_bytes, bytes_of}
 use Rattle.reference_check.specs.Forms.{Graph}
 use Rattle.der_model.proofs.BegunSlots.{drop_get}
-use Rattle.der_writer.specs.Measured.{Beside, Free, Counts}
+use Rattle.der_writer.specs.Measured.{Beside, Free, Counts, AreKept}
 use Rattle.der_writer.specs.inner.PieceOctets.{Begun, Filled, Ended, before_of}
 use Rattle.der_writer.specs.inner.Passes.{Frame, Stage, following, innermost_frame, piece_step, stage}
 use Rattle.der_writer.proofs.Whole.{is_there}
 use Rattle.der_writer.specs.inner.Measuring.{AreBeside, following_piece, following_at, AreAwaited, Knows, before_place, behind_piece, IsSizeOf, IsSizeAt}
 
-pub ended_lower : (held : Held) (low more around : ℕ) (fs : List Frame) → more ≤ low → AreAwaited held low around fs → AreAwaited held more around fs
-ended_lower held low more around [] l h = h
-ended_lower held low more around (f ∷ fs) l (a, b, n, c, d, e) = (omega arith, b, n, c, d, e)
+apart : (a b : ℕ) → a < b → a ≢ b
+apart a b l e = absurd (omega (arith, l, e))
 
--- the same pieces, and the same numbers from a place on
-pub record SameFrom (low : ℕ) (old new : Held) : Type 0 where
+beyond : (a b : ℕ) → b < a → a ≢ b
+beyond a b l e = absurd (omega (arith, l, e))
+
+-- the same pieces, and the same numbers at every place but one
+pub record SameBut (place : ℕ) (old new : Held) : Type 0 where
   pub region : new.region ≡ old.region
-  pub lens : (q : ℕ) → low ≤ q → slice_index new.lens q ≡ slice_index old.lens q
-  pub groups : (q : ℕ) → low ≤ q → slice_index new.groups q ≡ slice_index old.groups q
+  pub lens : (q : ℕ) → q ≢ place → slice_index new.lens q ≡ slice_index old.lens q
+  pub groups : (q : ℕ) → q ≢ place → slice_index new.groups q ≡ slice_index old.groups q
 
-pub same_following : (low : ℕ) (old new : Held) → SameFrom low old new → (at k : ℕ) → low ≤ at → following_at new at k ≡ following_at old at k
-same_following low old new s at k l = ap₂ (λ r g. following_piece (slice_get r.pieces at) g k) s.region (s.groups at l)
+-- pairs of numbers stay where the place is behind them
+pub kept_same : (place : ℕ) (old new : Held) (n : ℕ) (bs : List Beside) → SameBut place old new → n ≤ place → AreKept old n bs → AreKept new n bs
+kept_same place old new zero [] s l k = tt
+kept_same place old new (suc n) [] s l k = absurd k
+kept_same place old new n (Free ∷ bs) s l k = kept_same place old new n bs s l k
+kept_same place old new zero (Counts len group ∷ bs) s l k = absurd k
+kept_same place old new (suc n) (Counts len group ∷ bs) s l (a, b, k) =
+    let before : n < place = omega (arith, l) in
+    let less : n ≤ place = omega (arith, l) in
+    (s.lens n (apart n place before) ∙ a, s.groups n (apart n place before) ∙ b, kept_same place old new n bs s less k)
 
-pub ended_same : (held new : Held) (low around : ℕ) (fs : List Frame) → SameFrom low held new → AreAwaited held low around fs → AreAwaited new low around fs
-ended_same held new low around [] s h = subst (λ r. length r.pieces ≤ around) (sym s.region) h
-ended_same held new low around (f ∷ fs) s (a, b, n, c, d, e) =
-    let more : SameFrom (around + 1) held new = record { region = s.region; lens = λ q l. s.lens q (omega arith); groups = λ q l. s.groups q (omega arith) } in (
-      a,
-      subst (λ r. around < length r.pieces) (sym s.region) b,
-      λ k. same_following low held new s around k a ∙ n k,
-      s.lens around a ∙ c,
-      λ k. d k ∙ sym (same_following low held new s (around + 1) k (omega arith)),
-      subst (λ z. AreAwaited new (around + 1) z fs) (sym (s.groups around a)) (ended_same held new (around + 1) (slice_index held.groups around) fs more e),
+-- what is known of elements stays where the place is before that
+pub awaited_same : (place : ℕ) (old new : Held) (ended : ℕ) (fs : List Frame) → SameBut place old new → place + ended < length old.region.pieces → AreAwaited old ended fs → AreAwaited new ended fs
+awaited_same place old new zero [] s l h = tt
+awaited_same place old new zero (f ∷ fs) s l h = absurd h
+awaited_same place old new (suc ended) [] s l h = absurd h
+awaited_same place old new (suc ended) (f ∷ fs) s l (a, b, h) =
+    let behind : place < length old.region.pieces - suc ended = omega (arith, l) in
+    let less : place + ended < length old.region.pieces = omega (arith, l) in
+    let other = beyond (length old.region.pieces - suc ended) place behind in (
+      ap (λ r. slice_index new.lens (length r.pieces - suc ended)) s.region ∙ (s.lens (length old.region.pieces - suc ended) other ∙ a),
+      ap (λ r. slice_index new.groups (length r.pieces - suc ended)) s.region ∙ (s.groups (length old.region.pieces - suc ended) other ∙ b),
+      awaited_same place old new ended fs s less h,
     )
+
+pub awaited_behind : (held : Held) (ended : ℕ) (fs : List Frame) → AreAwaited held ended fs → AreAwaited held (ended - 1) (drop 1 fs)
+awaited_behind held zero [] h = tt
+awaited_behind held zero (f ∷ fs) h = absurd h
+awaited_behind held (suc ended) [] h = absurd h
+awaited_behind held (suc ended) (f ∷ fs) (a, b, h) = (let less : ended ≡ suc ended - 1 = omega arith in subst (λ n. AreAwaited held n fs) less h)
 
 pub index_set : (xs : List ℕ) (at x : ℕ) → at < length xs → slice_index (slice_set xs at x) at ≡ x
 index_set xs at x l = grind (arith, get_or-set_same)
 
-pub index_other : (xs : List ℕ) (at q x : ℕ) → at < q → slice_index (slice_set xs at x) q ≡ slice_index xs q
+pub index_other : (xs : List ℕ) (at q x : ℕ) → q ≢ at → slice_index (slice_set xs at x) q ≡ slice_index xs q
 index_other xs at q x l = grind (arith, get_or-set_other)
 
 get_drop : (ps : List Piece) (at : ℕ) → drop at ps ≡ [] → slice_get ps at ≡ None
@@ -59,103 +77,88 @@ get_drop_some [] qs (suc at) p e = absurd cc
 get_drop_some (x ∷ ps) qs zero p e = (let h : x ≡ p = cc in ap (λ z. Some z) h)
 get_drop_some (x ∷ ps) qs (suc at) p e = get_drop_some ps qs at p e
 
--- what follows stands beside the next piece
-pub following_is : (held : Held) (at k : ℕ) (bs : List Beside) → AreBeside (drop at held.region.pieces) bs
-    → ((q len group : ℕ) → slice_get bs q ≡ Some (Counts len group) → (slice_index held.lens (at + q) ≡ len) × (slice_index held.groups (at + q) ≡ group))
-    → following (drop at held.region.pieces) bs k ≡ following_at held at k
-following_is held at k bs are kept = go (drop at held.region.pieces) bs refl are kept
+-- what follows is known by the last pair of numbers
+pub following_is : (held : Held) (at kept k : ℕ) (bs : List Beside) → AreBeside (drop at held.region.pieces) bs → AreKept held kept bs → following (drop at held.region.pieces) bs k ≡ following_at held at kept k
+following_is held at kept k bs are numbers = go kept (drop at held.region.pieces) bs refl are numbers
   where
-    go : (ps : List Piece) (bs : List Beside) → drop at held.region.pieces ≡ ps → AreBeside ps bs
-        → ((q len group : ℕ) → slice_get bs q ≡ Some (Counts len group) → (slice_index held.lens (at + q) ≡ len) × (slice_index held.groups (at + q) ≡ group)) → following ps bs k ≡ following_at held at k
-    go [] bs e are kept = ap (λ z. following_piece z (slice_index held.groups at) k) (sym (get_drop held.region.pieces at e))
-    go (p ∷ ps) [] e are kept = absurd are
-    go (Begins edge ∷ ps) (Free ∷ bs) e are kept = absurd are
-    go (Begins edge ∷ ps) (Counts len group ∷ bs) e are kept =
-        let here : at + 0 ≡ at = omega arith in
-        let kept_here : slice_index held.groups at ≡ group = subst (λ z. slice_index held.groups z ≡ group) here (kept 0 len group refl).1 in
-        ap₂ (λ z n. following_piece z n k) (sym (get_drop_some held.region.pieces ps at (Begins edge) e)) (sym kept_here)
-    go (Holds l ∷ ps) (b ∷ bs) e are kept = ap (λ z. following_piece z (slice_index held.groups at) k) (sym (get_drop_some held.region.pieces ps at (Holds l) e))
-    go (Ends edge ∷ ps) (b ∷ bs) e are kept = ap (λ z. following_piece z (slice_index held.groups at) k) (sym (get_drop_some held.region.pieces ps at (Ends edge) e))
+    there : (n : ℕ) (ps : List Piece) (p : Piece) → drop at held.region.pieces ≡ p ∷ ps → following_piece (Some p) (slice_index held.groups n) k ≡ following_at held at (suc n) k
+    there n ps p e = ap (λ z. following_piece z (slice_index held.groups n) k) (sym (get_drop_some held.region.pieces ps at p e))
 
--- what is kept beside one piece more
-pub beside_more : (held new : Held) (at : ℕ) (b : Beside) (bs : List Beside) → SameFrom (at + 1) held new
-    → ((len group : ℕ) → b ≡ Counts len group → (slice_index new.lens at ≡ len) × (slice_index new.groups at ≡ group))
-    → ((q len group : ℕ) → slice_get bs q ≡ Some (Counts len group) → (slice_index held.lens (at + 1 + q) ≡ len) × (slice_index held.groups (at + 1 + q) ≡ group))
-    → (q len group : ℕ) → slice_get (b ∷ bs) q ≡ Some (Counts len group) → (slice_index new.lens (at + q) ≡ len) × (slice_index new.groups (at + q) ≡ group)
-beside_more held new at b bs s here kept zero len group e =
-    let place : at + 0 ≡ at = omega arith in
-    let same : b ≡ Counts len group = cc in
-    subst (λ z. (slice_index new.lens z ≡ len) × (slice_index new.groups z ≡ group)) (sym place) (here len group same)
-beside_more held new at b bs s here kept (suc q) len group e =
-    let place : at + suc q ≡ at + 1 + q = omega arith in
-    let r = kept q len group e in
-    subst (λ z. (slice_index new.lens z ≡ len) × (slice_index new.groups z ≡ group)) (sym place) (s.lens (at + 1 + q) (omega arith) ∙ r.0, s.groups (at + 1 + q) (omega arith) ∙ r.1)
+    go : (n : ℕ) (ps : List Piece) (bs : List Beside) → drop at held.region.pieces ≡ ps → AreBeside ps bs → AreKept held n bs → following ps bs k ≡ following_at held at n k
+    go zero [] bs e are numbers = refl
+    go (suc n) [] bs e are numbers = ap (λ z. following_piece z (slice_index held.groups n) k) (sym (get_drop held.region.pieces at e))
+    go n (p ∷ ps) [] e are numbers = absurd are
+    go n (Begins edge ∷ ps) (Free ∷ bs) e are numbers = absurd are
+    go zero (Begins edge ∷ ps) (Counts len group ∷ bs) e are numbers = absurd numbers
+    go (suc n) (Begins edge ∷ ps) (Counts len group ∷ bs) e are (a, b, numbers) = ap (λ z. following_piece (Some (Begins edge)) z k) (sym b) ∙ there n ps (Begins edge) e
+    go zero (Holds l ∷ ps) (b ∷ bs) e are numbers = refl
+    go (suc n) (Holds l ∷ ps) (b ∷ bs) e are numbers = there n ps (Holds l) e
+    go zero (Ends edge ∷ ps) (b ∷ bs) e are numbers = refl
+    go (suc n) (Ends edge ∷ ps) (b ∷ bs) e are numbers = there n ps (Ends edge) e
 
--- a free piece, beside which nothing is kept
-pub knows_free : (held : Held) (at around total sum : ℕ) (s : Stage) → Knows held (at + 1) around total s → (x : ℕ) → sum ≡ total + x → Knows held at around sum (record { sum = x + s.sum; frames = s.frames; beside = Free ∷ s.beside })
-knows_free held at around total sum s k x e = record {
+-- a leaf: no number belongs to it
+pub knows_free : (held : Held) (at kept ended total sum : ℕ) (s : Stage) → Knows held (at + 1) kept ended total s → (x : ℕ) → sum ≡ total + x → Knows held at kept ended sum (record { sum = x + s.sum; frames = s.frames; beside = Free ∷ s.beside })
+knows_free held at kept ended total sum s k x e = record {
   total_is = (let same = k.total_is in omega (arith, e, same));
-  beside = beside_more held held at Free s.beside (record { region = refl; lens = λ q l. refl; groups = λ q l. refl }) (λ len group e. absurd cc) k.beside;
-  ended = ended_lower held (at + 1) at around s.frames (omega arith) k.ended;
+  numbers = k.numbers;
+  awaited = k.awaited;
+  room = (let room = k.room in omega (arith, room));
 }
 
--- an end, beside which the sum and the place of the next end are kept
-pub knows_end : (held new : Held) (at around total sum : ℕ) (s : Stage) (edge : Edge) → Knows held (at + 1) around total s → SameFrom (at + 1) held new → at < length held.region.pieces → slice_get held.region.pieces at ≡ Some (Ends edge)
-    → slice_index new.lens at ≡ total → slice_index new.groups at ≡ around → AreBeside (drop (at + 1) held.region.pieces) s.beside → (x : ℕ) → sum ≡ total + x
-    → Knows new at at sum (record { sum = x + s.sum; frames = record { behind = s.sum; following = following (drop (at + 1) held.region.pieces) s.beside } ∷ s.frames; beside = Free ∷ s.beside })
-knows_end held new at around total sum s edge k same low there len group are x e = record {
-  total_is = (let t = k.total_is in omega (arith, e, t));
-  beside = beside_more held new at Free s.beside same (λ len group e. absurd cc) k.beside;
-  ended = (
-    omega arith,
-    subst (λ r. at < length r.pieces) (sym same.region) low,
-    λ j. ap (λ z. following_piece z (slice_index new.groups at) j) (ap (λ r. slice_get r.pieces at) same.region ∙ there),
-    len ∙ k.total_is,
-    λ j. following_is held (at + 1) j s.beside are k.beside ∙ sym (same_following (at + 1) held new same (at + 1) j (omega arith)),
-    subst (λ z. AreAwaited new (at + 1) z s.frames) (sym group) (ended_same held new (at + 1) around s.frames same k.ended),
-  );
-}
+-- an end, of which the sum and what follows are kept
+pub knows_end : (held new : Held) (at kept ended total sum place : ℕ) (s : Stage) (edge : Edge) → Knows held (at + 1) kept ended total s → place ≡ length held.region.pieces - suc ended → SameBut place held new
+    → slice_index new.lens place ≡ total → slice_index new.groups place ≡ following_at held (at + 1) kept edge.slot → AreBeside (drop (at + 1) held.region.pieces) s.beside → (x : ℕ) → sum ≡ total + x
+    → Knows new at kept (ended + 1) sum (record { sum = x + s.sum; frames = record { behind = s.sum; following = following (drop (at + 1) held.region.pieces) s.beside edge.slot } ∷ s.frames; beside = Free ∷ s.beside })
+knows_end held new at kept ended total sum place s edge k where_is same len group are x e =
+    let room = k.room in
+    let free : kept ≤ place = omega (arith, room, where_is) in
+    let less : place + ended < length held.region.pieces = omega (arith, room, where_is) in
+    let place_is : length new.region.pieces - suc ended ≡ place = ap (λ r. length r.pieces - suc ended) same.region ∙ sym where_is in
+    record {
+      total_is = (let t = k.total_is in omega (arith, e, t));
+      numbers = kept_same place held new kept s.beside same free k.numbers;
+      awaited = subst (λ n. AreAwaited new n (record { behind = s.sum; following = following (drop (at + 1) held.region.pieces) s.beside edge.slot } ∷ s.frames)) (sym (add-one ended)) (
+        ap (slice_index new.lens) place_is ∙ (len ∙ k.total_is),
+        ap (slice_index new.groups) place_is ∙ (group ∙ sym (following_is held (at + 1) kept edge.slot s.beside are k.numbers)),
+        awaited_same place held new ended s.frames same less k.awaited,
+      );
+      room = (let all = ap (λ r. length r.pieces) same.region in omega (arith, room, all));
+    }
 
--- a beginning, beside which its numbers are kept
-pub knows_begin : (held new : Held) (at around outer total sum : ℕ) (s : Stage) → Knows held (at + 1) around total s → SameFrom (at + 1) held new → AreAwaited held (at + 1) outer (drop 1 s.frames) → (len group : ℕ)
-    → slice_index new.lens at ≡ len → slice_index new.groups at ≡ group → (x : ℕ) → sum ≡ total + x
-    → Knows new at outer sum (record { sum = x + s.sum; frames = drop 1 s.frames; beside = Counts len group ∷ s.beside })
-knows_begin held new at around outer total sum s k same ended len group l g x e = record {
-  total_is = (let t = k.total_is in omega (arith, e, t));
-  beside = beside_more held new at (Counts len group) s.beside same (λ m n e. (l ∙ (let q : len ≡ m = cc in q), g ∙ (let q : group ≡ n = cc in q))) k.beside;
-  ended = ended_lower new (at + 1) at outer (drop 1 s.frames) (omega arith) (ended_same held new (at + 1) outer (drop 1 s.frames) same ended);
-}
+-- a beginning, of which both numbers are kept
+pub knows_begin : (held new : Held) (at kept ended less total sum : ℕ) (s : Stage) → Knows held (at + 1) kept ended total s → less ≡ ended - 1 → SameBut kept held new → (len group : ℕ)
+    → slice_index new.lens kept ≡ len → slice_index new.groups kept ≡ group → (x : ℕ) → sum ≡ total + x
+    → Knows new at (kept + 1) less sum (record { sum = x + s.sum; frames = drop 1 s.frames; beside = Counts len group ∷ s.beside })
+knows_begin held new at kept ended less total sum s k less_is same len group l g x e =
+    let room = k.room in
+    let free : kept + less < length held.region.pieces = omega (arith, room, less_is) in
+    let all : kept ≤ kept = omega arith in
+    record {
+      total_is = (let t = k.total_is in omega (arith, e, t));
+      numbers = subst (λ n. AreKept new n (Counts len group ∷ s.beside)) (sym (add-one kept)) (l, g, kept_same kept held new kept s.beside same all k.numbers);
+      awaited = awaited_same kept held new less (drop 1 s.frames) same free (subst (λ n. AreAwaited held n (drop 1 s.frames)) (sym less_is) (awaited_behind held ended s.frames k.awaited));
+      room = (let all = ap (λ r. length r.pieces) same.region in omega (arith, room, all, less_is));
+    }
 
-get_past : (ps : List Piece) (at : ℕ) → length ps ≤ at → slice_get ps at ≡ None
-get_past [] zero l = refl
-get_past [] (suc at) l = refl
-get_past (p ∷ ps) zero l = absurd (omega arith)
-get_past (p ∷ ps) (suc at) l = get_past ps at (omega arith)
+-- what was kept of the innermost element
+pub innermost_none : (held : Held) (ended : ℕ) (fs : List Frame) → ended ≡ 0 → AreAwaited held ended fs → (0 ≡ (innermost_frame fs).behind) × (0 ≡ (innermost_frame fs).following)
+innermost_none held ended [] e h = (refl, refl)
+innermost_none held zero (f ∷ fs) e h = absurd h
+innermost_none held (suc ended) (f ∷ fs) e h = absurd cc
 
--- nothing follows where an element ends that is awaited
-following_ended : (held : Held) (low around k : ℕ) (fs : List Frame) → AreAwaited held low around fs → following_at held around k ≡ 0
-following_ended held low around k [] h = ap (λ z. following_piece z (slice_index held.groups around) k) (get_past held.region.pieces around h)
-following_ended held low around k (f ∷ fs) (a, b, n, c, d, e) = n k
+pub innermost_some : (held : Held) (ended place behind following : ℕ) (fs : List Frame) → ended ≢ 0 → place ≡ length held.region.pieces - ended → behind ≡ slice_index held.lens place → following ≡ slice_index held.groups place
+    → AreAwaited held ended fs → (behind ≡ (innermost_frame fs).behind) × (following ≡ (innermost_frame fs).following)
+innermost_some held zero place behind following fs some e b f h = absurd (some refl)
+innermost_some held (suc ended) place behind following [] some e b f h = absurd h
+innermost_some held (suc ended) place behind following (frame ∷ fs) some e b f (x, y, h) = (b ∙ (ap (slice_index held.lens) e ∙ x), f ∙ (ap (slice_index held.groups) e ∙ y))
 
--- what was kept beside the innermost end
-pub kept_pop : (held : Held) (low around behind next k : ℕ) (inside : ℕ) (fs : List Frame) → around < length held.region.pieces → behind ≡ slice_index held.lens around
-    → ((next ≡ around + 1 → following_at held (around + 1) k ≡ 0) → inside ≡ following_at held (around + 1) k) → next ≡ slice_index held.groups around
-    → AreAwaited held low around fs → (behind ≡ (innermost_frame fs).behind) × (inside ≡ (innermost_frame fs).following k) × AreAwaited held low next (drop 1 fs)
-kept_pop held low around behind next k inside [] l b f g h = absurd (omega arith)
-kept_pop held low around behind next k inside (frame ∷ fs) l b f g (a, c, n, d, e, more) =
-    let outer : AreAwaited held (around + 1) next fs = subst (λ z. AreAwaited held (around + 1) z fs) (sym g) more in (
-      b ∙ d,
-      f (λ same. following_ended held (around + 1) (around + 1) k fs (subst (λ z. AreAwaited held (around + 1) z fs) same outer)) ∙ sym (e k),
-      ended_lower held (around + 1) low next fs (omega arith) outer,
-    )
-
--- both numbers beside a piece are set
+-- both numbers at a place are set
 pub sets_same : (old mid new : Held) (at x y : ℕ) → at < length old.lens → at < length old.groups → mid.lens ≡ slice_set old.lens at x → (mid.region ≡ old.region) × (mid.groups ≡ old.groups)
-    → new.groups ≡ slice_set mid.groups at y → (new.region ≡ mid.region) × (new.lens ≡ mid.lens) → SameFrom (at + 1) old new × (slice_index new.lens at ≡ x) × (slice_index new.groups at ≡ y)
+    → new.groups ≡ slice_set mid.groups at y → (new.region ≡ mid.region) × (new.lens ≡ mid.lens) → SameBut at old new × (slice_index new.lens at ≡ x) × (slice_index new.groups at ≡ y)
 sets_same old mid new at x y l k lens (r, g) groups (r2, l2) =
     let all : new.lens ≡ slice_set old.lens at x = l2 ∙ lens in
     let both : new.groups ≡ slice_set old.groups at y = groups ∙ ap (λ z. slice_set z at y) g in (
-      record { region = r2 ∙ r; lens = λ q h. ap (λ z. slice_index z q) all ∙ index_other old.lens at q x (omega arith); groups = λ q h. ap (λ z. slice_index z q) both ∙ index_other old.groups at q y (omega arith) },
+      record { region = r2 ∙ r; lens = λ q h. ap (λ z. slice_index z q) all ∙ index_other old.lens at q x h; groups = λ q h. ap (λ z. slice_index z q) both ∙ index_other old.groups at q y h },
       ap (λ z. slice_index z at) all ∙ index_set old.lens at x l,
       ap (λ z. slice_index z at) both ∙ index_set old.groups at y k,
     )
@@ -184,19 +187,33 @@ holds_there (Holds l) h = (l, refl)
 holds_there (Ends x) h = absurd cc
 
 -- an element that begins there
-pub following_begun : (held : Held) (at k : ℕ) (e : Edge) → slice_get held.region.pieces at ≡ Some (Begins e) → e.slot ≡ k → slice_index held.groups at ≡ following_at held at k
-following_begun held at k e there same =
+pub following_begun : (held : Held) (at kept k : ℕ) (e : Edge) → slice_get held.region.pieces at ≡ Some (Begins e) → e.slot ≡ k → kept ≢ 0 → slice_index held.groups (kept - 1) ≡ following_at held at kept k
+following_begun held at zero k e there same some = absurd (some refl)
+following_begun held at (suc n) k e there same some =
     let test : (e.slot == k) ≡ true = subst (λ z. (e.slot == z) ≡ true) same (own e.slot) in
-    sym (ap (λ z. following_piece z (slice_index held.groups at) k) there ∙ cond-true (e.slot == k) (slice_index held.groups at) 0 test)
+    let last : suc n - 1 ≡ n = omega arith in
+    ap (slice_index held.groups) last ∙ sym (ap (λ z. following_piece z (slice_index held.groups n) k) there ∙ cond-true (e.slot == k) (slice_index held.groups n) 0 test)
   where
     own : (n : ℕ) → (n == n) ≡ true
     own n = grind (arith, nat_tests)
 
 -- an element of another slot that begins there
-pub following_other : (held : Held) (at k : ℕ) (e : Edge) → slice_get held.region.pieces at ≡ Some (Begins e) → e.slot ≢ k → 0 ≡ following_at held at k
-following_other held at k e there other =
+pub following_other : (held : Held) (at kept k : ℕ) (e : Edge) → slice_get held.region.pieces at ≡ Some (Begins e) → e.slot ≢ k → 0 ≡ following_at held at kept k
+following_other held at zero k e there other = refl
+following_other held at (suc n) k e there other =
     let test : (e.slot == k) ≡ false = grind (arith, nat_tests) in
-    sym (ap (λ z. following_piece z (slice_index held.groups at) k) there ∙ cond-false (e.slot == k) (slice_index held.groups at) 0 test)
+    sym (ap (λ z. following_piece z (slice_index held.groups n) k) there ∙ cond-false (e.slot == k) (slice_index held.groups n) 0 test)
+
+-- no element begins there
+pub following_not : (held : Held) (at kept k : ℕ) → ((e : Edge) → slice_get held.region.pieces at ≡ Some (Begins e) → ⊥) → 0 ≡ following_at held at kept k
+following_not held at zero k none = refl
+following_not held at (suc n) k none = go (slice_get held.region.pieces at) none
+  where
+    go : (o : Option Piece) → ((e : Edge) → o ≡ Some (Begins e) → ⊥) → 0 ≡ following_piece o (slice_index held.groups n) k
+    go None none = refl
+    go (Some (Begins e)) none = absurd (none e refl)
+    go (Some (Holds l)) none = refl
+    go (Some (Ends e)) none = refl
 
 -- the size of the leaf that was read
 pub size_there : (ps : List Piece) (at size : ℕ) (p : Piece) → slice_get ps at ≡ Some p → IsSizeAt (slice_get ps at) size → IsSizeOf p size

@@ -1,30 +1,29 @@
 -- An element of a simple type, the three pieces of which are measured at once.
-use Rattle.std.proofs.Common.{◌≡◌, ℕ, suc, ◌+◌, ◌-◌, ◌≤◌, List, ◌∷◌, length, drop, Some, refl, sym, ap, ap₂, ◌∙◌, subst, arith, length-append}
+use Rattle.std.proofs.Common.{◌≡◌, ℕ, suc, ◌+◌, ◌-◌, ◌≤◌, ◌<◌, List, ◌∷◌, length, drop, Some, refl, sym, ap, ap₂, ◌∙◌, subst, arith, add-one, length-append}
 use Rattle.std.specs.Prelude.{slice_get, slice_index}
 use Rattle.data_types.specs.Value.{Edge, Piece, Begins, Holds, Ends}
 use Rattle.facets.specs.declared.simple.Simple.{Simple}
 use Rattle.inst_pool.specs.Pieces.{Held, piece_bytes, bytes_of}
 use Rattle.reference_check.specs.Forms.{Graph}
-use Rattle.der_writer.specs.Measured.{Free, Counts}
+use Rattle.der_writer.specs.Measured.{Free, Counts, AreKept}
 use Rattle.der_writer.specs.inner.PieceOctets.{Begun, Filled, before_of, begin_octets, leaf_octets, octets_before, slots_behind}
 use Rattle.der_writer.specs.inner.Passes.{Stage, following, piece_step, stage}
 use Rattle.der_writer.specs.inner.Measuring.{IsSimpleAt, Knows, before_place, behind_piece, following_at}
 use Rattle.der_writer.proofs.StageBounds.{stage_beside, stage_within}
-use Rattle.der_writer.proofs.KnownStages.{SameFrom, bytes_from, beside_more, ended_lower, ended_same, following_is, knows_free, stage_at}
+use Rattle.der_writer.proofs.KnownStages.{SameBut, awaited_same, bytes_from, following_is, kept_same, stage_at}
 
--- what is known behind three pieces, of which the first has its numbers, and no number counts beside the others
-pub knows_three : (held new : Held) (at around total sum : ℕ) (s : Stage) → Knows held (at + 3) around total s → SameFrom (at + 1) held new → (len group : ℕ) → slice_index new.lens at ≡ len → slice_index new.groups at ≡ group
-    → (y : ℕ) → sum ≡ y → Knows new at around sum (record { sum = y; frames = s.frames; beside = Counts len group ∷ Free ∷ Free ∷ s.beside })
-knows_three held new at around total sum s k same len group l g y e =
-    let third : at + 3 ≡ at + 2 + 1 = omega arith in
-    let second : at + 2 ≡ at + 1 + 1 = omega arith in
-    let none : total ≡ total + 0 = omega arith in
-    let two = knows_free held (at + 2) around total total s (subst (λ n. Knows held n around total s) third k) 0 none in
-    let one = knows_free held (at + 1) around total total _ (subst (λ n. Knows held n around total (record { sum = 0 + s.sum; frames = s.frames; beside = Free ∷ s.beside })) second two) 0 none in
+-- what is known behind three pieces, of which the first has its numbers, and none belong to the others
+pub knows_three : (held new : Held) (at kept ended total sum : ℕ) (s : Stage) → Knows held (at + 3) kept ended total s → SameBut kept held new → (len group : ℕ) → slice_index new.lens kept ≡ len → slice_index new.groups kept ≡ group
+    → (y : ℕ) → sum ≡ y → Knows new at (kept + 1) ended sum (record { sum = y; frames = s.frames; beside = Counts len group ∷ Free ∷ Free ∷ s.beside })
+knows_three held new at kept ended total sum s k same len group l g y e =
+    let room = k.room in
+    let less : kept + ended < length held.region.pieces = omega (arith, room) in
+    let all : kept ≤ kept = omega arith in
     record {
       total_is = e;
-      beside = beside_more held new at (Counts len group) (Free ∷ Free ∷ s.beside) same (λ m n e. (l ∙ (let q : len ≡ m = cc in q), g ∙ (let q : group ≡ n = cc in q))) one.beside;
-      ended = ended_lower new (at + 1) at around s.frames (omega arith) (ended_same held new (at + 1) around s.frames same one.ended);
+      numbers = subst (λ n. AreKept new n (Counts len group ∷ Free ∷ Free ∷ s.beside)) (sym (add-one kept)) (l, g, kept_same kept held new kept s.beside same all k.numbers);
+      awaited = awaited_same kept held new ended s.frames same less k.awaited;
+      room = (let all = ap (λ r. length r.pieces) same.region in omega (arith, room, all));
     }
 
 -- the stage at a piece, by that behind it
@@ -49,22 +48,22 @@ simple_stage g ps at edge size is =
     stage_next g ps at (at + 1) (Begins edge) refl is.begins ∙ ap (λ s. piece_step g (before_place ps at) (Begins edge) (drop (at + 1) ps) s) leaf
 
 -- what follows such an element is no more than there is
-pub follows_within : (g : Graph ℕ Simple) (held : Held) (at around total k : ℕ) → Knows held at around total (stage g (before_place held.region.pieces at) (drop at held.region.pieces)) → following_at held at k ≤ total
-follows_within g held at around total k known =
+pub follows_within : (g : Graph ℕ Simple) (held : Held) (at kept ended total k : ℕ) → Knows held at kept ended total (stage g (before_place held.region.pieces at) (drop at held.region.pieces)) → following_at held at kept k ≤ total
+follows_within g held at kept ended total k known =
     let ps = held.region.pieces in
     let s = stage g (before_place ps at) (drop at ps) in
-    let is = following_is held at k s.beside (stage_beside g (before_place ps at) (drop at ps)) known.beside in
+    let is = following_is held at kept k s.beside (stage_beside g (before_place ps at) (drop at ps)) known.numbers in
     let most = (stage_within g (before_place ps at) (drop at ps)).1 k in
     let same = known.total_is in
     omega (arith, is, most, same)
 
 -- the pass knows what the stage in front of the element says, where its numbers are set
-pub knows_simple : (g : Graph ℕ Simple) (held new : Held) (at around total sum : ℕ) (edge : Edge) (size between list head : ℕ) → IsSimpleAt g held.region.pieces at edge size
-    → Knows held (at + 3) around total (stage g (before_place held.region.pieces (at + 3)) (drop (at + 3) held.region.pieces)) → SameFrom (at + 1) held new
-    → slice_index new.lens at ≡ size → slice_index new.groups at ≡ head + size + following_at held (at + 3) edge.slot
-    → head ≡ length (begin_octets g edge size) → between + list ≡ length (octets_before g (before_place held.region.pieces at) edge (head + size + following_at held (at + 3) edge.slot)) → sum ≡ total + size + between + list + head
-    → Knows new at around sum (stage g (before_place held.region.pieces at) (drop at held.region.pieces))
-knows_simple g held new at around total sum edge size between list head is k same lens groups head_is before_is e =
+pub knows_simple : (g : Graph ℕ Simple) (held new : Held) (at kept ended total sum : ℕ) (edge : Edge) (size between list head : ℕ) → IsSimpleAt g held.region.pieces at edge size
+    → Knows held (at + 3) kept ended total (stage g (before_place held.region.pieces (at + 3)) (drop (at + 3) held.region.pieces)) → SameBut kept held new
+    → slice_index new.lens kept ≡ size → slice_index new.groups kept ≡ head + size + following_at held (at + 3) kept edge.slot
+    → head ≡ length (begin_octets g edge size) → between + list ≡ length (octets_before g (before_place held.region.pieces at) edge (head + size + following_at held (at + 3) kept edge.slot)) → sum ≡ total + size + between + list + head
+    → Knows new at (kept + 1) ended sum (stage g (before_place held.region.pieces at) (drop at held.region.pieces))
+knows_simple g held new at kept ended total sum edge size between list head is k same lens groups head_is before_is e =
     let ps = held.region.pieces in
     let before = before_place ps at in
     let s = stage g (before_place ps (at + 3)) (drop (at + 3) ps) in
@@ -73,14 +72,16 @@ knows_simple g held new at around total sum edge size between list head is k sam
     let same_total = k.total_is in
     let len = (length (leaf_octets g (Begun edge) is.leaf) + (length (slots_behind g is.last.target Filled) + s.sum)) - s.sum in
     let len_is : size ≡ len = omega (arith, octets, none) in
-    let follow = following_is held (at + 3) edge.slot s.beside (stage_beside g (before_place ps (at + 3)) (drop (at + 3) ps)) k.beside in
+    let one_slot = is.slot in
+    let follow : following_at held (at + 3) kept edge.slot ≡ following (drop (at + 3) ps) s.beside is.last.slot =
+    ap (following_at held (at + 3) kept) (sym one_slot) ∙ sym (following_is held (at + 3) kept is.last.slot s.beside (stage_beside g (before_place ps (at + 3)) (drop (at + 3) ps)) k.numbers) in
     let begin_is : head ≡ length (begin_octets g edge len) = head_is ∙ ap (λ z. length (begin_octets g edge z)) len_is in
-    let group = length (begin_octets g edge len) + len + following (drop (at + 3) ps) s.beside edge.slot in
-    let group_is : head + size + following_at held (at + 3) edge.slot ≡ group = ap₂ (λ a b. a + b) (ap₂ (λ a b. a + b) begin_is len_is) (sym follow) in
+    let group = length (begin_octets g edge len) + len + following (drop (at + 3) ps) s.beside is.last.slot in
+    let group_is : head + size + following_at held (at + 3) kept edge.slot ≡ group = ap₂ (λ a b. a + b) (ap₂ (λ a b. a + b) begin_is len_is) follow in
     let list_is : between + list ≡ length (octets_before g before edge group) = before_is ∙ ap (λ z. length (octets_before g before edge z)) group_is in
     let split = length-append (octets_before g before edge group) (begin_octets g edge len) in
-    subst (Knows new at around sum) (sym (simple_stage g ps at edge size is))
-    (knows_three held new at around total sum s k same len group (lens ∙ len_is) (groups ∙ group_is) _ (omega (arith, e, same_total, octets, none, begin_is, list_is, split)))
+    subst (Knows new at (kept + 1) ended sum) (sym (simple_stage g ps at edge size is))
+    (knows_three held new at kept ended total sum s k same len group (lens ∙ len_is) (groups ∙ group_is) _ (omega (arith, e, same_total, octets, none, begin_is, list_is, split)))
 
 -- the bytes of such an element
 pub simple_bytes : (g : Graph ℕ Simple) (ps : List Piece) (at : ℕ) (edge : Edge) (size : ℕ) → IsSimpleAt g ps at edge size → size + bytes_of (drop (at + 3) ps) ≤ 32 + bytes_of (drop at ps)

@@ -22,9 +22,9 @@ within_drop : (x : ℕ) (fs : List Frame) → AreFramesWithin x fs → AreFrames
 within_drop x [] w = tt
 within_drop x (f ∷ fs) (a, k, w) = w
 
-pub innermost_within : (x : ℕ) (fs : List Frame) (k : ℕ) → AreFramesWithin x fs → ((innermost_frame fs).behind ≤ x) × ((innermost_frame fs).following k ≤ (innermost_frame fs).behind)
-innermost_within x [] k w = (omega arith, omega arith)
-innermost_within x (f ∷ fs) k (a, h, w) = (a, h k)
+pub innermost_within : (x : ℕ) (fs : List Frame) → AreFramesWithin x fs → ((innermost_frame fs).behind ≤ x) × ((innermost_frame fs).following ≤ (innermost_frame fs).behind)
+innermost_within x [] w = (omega arith, omega arith)
+innermost_within x (f ∷ fs) (a, h, w) = (a, h)
 
 at_most : (b : Bool) (x y : ℕ) → x ≤ y → (if b then x else 0) ≤ y
 at_most true x y l = l
@@ -33,16 +33,16 @@ at_most false x y l = omega arith
 pub stage_within : (g : Graph ℕ Simple) (b : Before) (ps : List Piece) → AreFramesWithin (stage g b ps).sum (stage g b ps).frames × ((k : ℕ) → following ps (stage g b ps).beside k ≤ (stage g b ps).sum)
 stage_within g b [] = (tt, λ k. omega arith)
 stage_within g b (Holds l ∷ ps) = (let r = stage_within g Filled ps in (within_more (stage g Filled ps).sum _ _ (omega arith) r.0, λ k. omega arith))
-stage_within g b (Ends e ∷ ps) = (let r = stage_within g (Ended e) ps in ((omega arith, r.1, within_more (stage g (Ended e) ps).sum _ _ (omega arith) r.0), λ k. omega arith))
+stage_within g b (Ends e ∷ ps) = (let r = stage_within g (Ended e) ps in ((omega arith, r.1 e.slot, within_more (stage g (Ended e) ps).sum _ _ (omega arith) r.0), λ k. omega arith))
 stage_within g b (Begins e ∷ ps) = go (stage g (Begun e) ps) (stage_within g (Begun e) ps).0
   where
     go : (r : Stage) → AreFramesWithin r.sum r.frames → AreFramesWithin (piece_step g b (Begins e) ps r).sum (piece_step g b (Begins e) ps r).frames × ((k : ℕ) → following (Begins e ∷ ps) (piece_step g b (Begins e) ps r).beside k ≤ (piece_step g b (Begins e) ps r).sum)
     go r w =
         let f = innermost_frame r.frames in
         let len = r.sum - f.behind in
-        let group = length (begin_octets g e len) + len + f.following e.slot in
+        let group = length (begin_octets g e len) + len + f.following in
         let size = length-append (octets_before g b e group) (begin_octets g e len) in
-        let least = innermost_within r.sum r.frames e.slot w in
+        let least = innermost_within r.sum r.frames w in
         let behind = least.0 in
         let next = least.1 in
         let fits : group ≤ length (piece_octets g b (Begins e) len group) + r.sum = omega (arith, size, behind, next) in

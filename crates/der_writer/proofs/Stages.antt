@@ -77,11 +77,11 @@ module _ (T : Tables) where
 
   -- the pass at the beginning of an element, where it knows what stands in it and behind it
   begins : (b : Before) (e : Edge) (ps : List Piece) (r : Stage) (x : ℕ) (frame : Frame) (F : List Frame) (bs : List Beside) → r.sum ≡ x + frame.behind → r.frames ≡ frame ∷ F → r.beside ≡ bs
-      → ((piece_step g b (Begins e) ps r).beside ≡ Counts x (length (begin_octets g e x) + x + frame.following e.slot) ∷ bs) × ((piece_step g b (Begins e) ps r).frames ≡ F)
+      → ((piece_step g b (Begins e) ps r).beside ≡ Counts x (length (begin_octets g e x) + x + frame.following) ∷ bs) × ((piece_step g b (Begins e) ps r).frames ≡ F)
   begins b e ps r x frame F bs sum frames beside =
       let difference : x + frame.behind - frame.behind ≡ x = omega arith in
       let len : r.sum - (innermost_frame r.frames).behind ≡ x = ap₂ (λ a fs. a - (innermost_frame fs).behind) sum frames ∙ difference in
-      (ap₂ (λ c t. c ∷ t) (ap₂ (λ l fs. Counts l (length (begin_octets g e l) + l + (innermost_frame fs).following e.slot)) len frames) beside, ap (drop 1) frames)
+      (ap₂ (λ c t. c ∷ t) (ap₂ (λ l fs. Counts l (length (begin_octets g e l) + l + (innermost_frame fs).following)) len frames) beside, ap (drop 1) frames)
 
   -- what the pass knows in front of children, where it is known in front of the end of their element
   abbrev IsStaged : Before → List Piece → List Beside → List Frame → Type 0
@@ -101,7 +101,7 @@ module _ (T : Tables) where
     later = stage g (Ended edge) behind
 
     abbrev frame : Frame
-    frame = record { behind = later.sum; following = following behind later.beside }
+    frame = record { behind = later.sum; following = following behind later.beside edge.slot }
 
     abbrev IsChildStaged : Option (Slot ℕ) → Type 0
     IsChildStaged o = IsStaged b ((Begins (edge_at n k o) ∷ (pieces fragment g (edge_at n k o).target v ++ (Ends (edge_at n k o) ∷ child_pieces fragment g n rest))) ++ E)
@@ -147,7 +147,7 @@ module _ (T : Tables) where
   mutual
     pub value_staged : (t : ℕ) (f : Form ℕ Simple) (v : Value) (e : Edge) (ps : List Piece) → g t ≡ f → e.target ≡ t → AdmitsAs g f v
         → IsStaged (Begun e) (pieces fragment g t v ++ (Ends e ∷ ps)) (value_counts m t v ++ (Free ∷ (stage g (Ended e) ps).beside))
-        (record { behind = (stage g (Ended e) ps).sum; following = following ps (stage g (Ended e) ps).beside } ∷ (stage g (Ended e) ps).frames)
+        (record { behind = (stage g (Ended e) ps).sum; following = following ps (stage g (Ended e) ps).beside e.slot } ∷ (stage g (Ended e) ps).frames)
     value_staged t (form.Sequence slots) (value.Component cs) e ps at same a =
         children_staged t (form.Sequence slots) cs (Begun e) (Ends e ∷ ps) (Free ∷ (stage g (Ended e) ps).beside) _ at a.1 a.0.ordered (λ k. refl) (λ c. (refl, refl))
     value_staged t (form.Choice slots) (value.Component cs) e ps at same ((k, n, s, found, within, is), more) =

@@ -1,5 +1,5 @@
--- The octets of a whole instance, by the numbers that stand beside its pieces.
-use Rattle.std.proofs.Common.{◌≡◌, ℕ, zero, suc, ◌+◌, ◌-◌, ◌≤◌, ◌<◌, true, List, [], ◌∷◌, ◌++◌, length, drop, Option, Some, None, refl, sym, ap, ap₂, ◌∙◌, subst, arith, append-nil, drop-drop}
+-- The octets of a whole instance, by the numbers that are kept.
+use Rattle.std.proofs.Common.{◌≡◌, ℕ, zero, suc, ◌+◌, ◌-◌, ◌≤◌, ◌<◌, true, List, [], ◌∷◌, ◌++◌, length, drop, Option, Some, None, refl, sym, ap, ap₂, ◌∙◌, subst, arith, append-nil}
 use Rattle.std.specs.Prelude.{slice_get, slice_index}
 use Rattle.std.proofs.Math.ListN.{drop_of_length-le}
 use Rattle.data_types.specs.Value.{Value, Children, Piece, Begins, Holds, Ends}
@@ -16,51 +16,39 @@ use Rattle.message_model.specs.Tables.{Tables, types_of, edge_at, pieces, child_
 use Rattle.der_model.specs.DerMessage.{DerMessage, der_message}
 use Rattle.der_model.specs.Der.{body, inner_of, der_of}
 use Rattle.der_model.proofs.BegunSlots.{drop_get}
-use Rattle.der_writer.specs.Measured.{Beside, Free, Counts, contents_octets, value_counts, child_counts, IsMeasured}
+use Rattle.der_writer.specs.Measured.{Beside, Free, Counts, contents_octets, value_counts, child_counts, AreKept, IsMeasured}
 use Rattle.der_writer.specs.inner.PieceOctets.{Before, Begun, before_of, head, document_edge, slots_behind, piece_octets, pieces_octets, counted_octets}
 use Rattle.der_writer.specs.inner.Passes.{stage}
-use Rattle.der_writer.specs.inner.Measuring.{AreBeside, NumbersAreKept, before_place, behind_piece, octets_at, octets_there}
+use Rattle.der_writer.specs.inner.Measuring.{AreBeside, before_place, behind_piece, left_there, octets_at, octets_there, pairs_kept}
 use Rattle.der_writer.proofs.OctetLemmas.{wrapped_is}
 use Rattle.der_writer.proofs.ValueOctets.{children_octets}
 use Rattle.der_writer.proofs.Stages.{sum_is, children_staged}
 
-index_drop : (xs : List ℕ) (at : ℕ) → slice_index (drop 1 xs) at ≡ slice_index xs (suc at)
-index_drop [] at = refl
-index_drop (x ∷ xs) at = refl
+-- then what is written by the numbers that are kept is what is written by those that belong to the pieces
+pub numbers_agree : (g : Graph ℕ Simple) (b : Before) (ps : List Piece) (bs : List Beside) (held : Held) (n : ℕ) → AreBeside ps bs → AreKept held n bs → pieces_octets g b ps held.lens held.groups n ≡ counted_octets g b ps bs
+numbers_agree g b [] bs held n m k = refl
+numbers_agree g b (p ∷ ps) [] held n m k = absurd m
+numbers_agree g b (Begins e ∷ ps) (Free ∷ bs) held n m k = absurd m
+numbers_agree g b (Begins e ∷ ps) (Counts len group ∷ bs) held zero m k = absurd k
+numbers_agree g b (Begins e ∷ ps) (Counts len group ∷ bs) held (suc n) m (l, r, k) =
+    let last : suc n - 1 ≡ n = omega arith in
+    ap (λ z. piece_octets g b (Begins e) (slice_index held.lens z) (slice_index held.groups z) ++ pieces_octets g (Begun e) ps held.lens held.groups z) last
+    ∙ ap₂ (λ x y. x ++ y) (ap₂ (piece_octets g b (Begins e)) l r) (numbers_agree g (Begun e) ps bs held n m k)
+numbers_agree g b (Holds l ∷ ps) (Free ∷ bs) held n m k = ap (λ y. piece_octets g b (Holds l) 0 0 ++ y) (numbers_agree g (before_of (Holds l)) ps bs held n m k)
+numbers_agree g b (Holds l ∷ ps) (Counts len group ∷ bs) held n m k = absurd m
+numbers_agree g b (Ends e ∷ ps) (Free ∷ bs) held n m k = ap (λ y. piece_octets g b (Ends e) 0 0 ++ y) (numbers_agree g (before_of (Ends e)) ps bs held n m k)
+numbers_agree g b (Ends e ∷ ps) (Counts len group ∷ bs) held n m k = absurd m
 
-kept_behind : (b : Beside) (bs : List Beside) (lens groups : List ℕ) → NumbersAreKept (b ∷ bs) lens groups → NumbersAreKept bs (drop 1 lens) (drop 1 groups)
-kept_behind b bs lens groups k at len group e = (let r = k (suc at) len group e in (index_drop lens at ∙ r.0, index_drop groups at ∙ r.1))
+-- there are no more pairs than pieces to which they belong
+pub kept_few : (held : Held) (n : ℕ) (bs : List Beside) → AreKept held n bs → n ≤ length bs
+kept_few held zero [] k = omega arith
+kept_few held (suc n) [] k = absurd k
+kept_few held n (Free ∷ bs) k = (let r = kept_few held n bs k in omega (arith, r))
+kept_few held zero (Counts len group ∷ bs) k = absurd k
+kept_few held (suc n) (Counts len group ∷ bs) (l, r, k) = (let r = kept_few held n bs k in omega (arith, r))
 
--- then what is written by the numbers that stand there is what is written by those that belong there
-pub numbers_agree : (g : Graph ℕ Simple) (b : Before) (ps : List Piece) (bs : List Beside) (lens groups : List ℕ) → AreBeside ps bs → NumbersAreKept bs lens groups → pieces_octets g b ps lens groups ≡ counted_octets g b ps bs
-numbers_agree g b [] bs lens groups m k = refl
-numbers_agree g b (p ∷ ps) [] lens groups m k = absurd m
-numbers_agree g b (Begins e ∷ ps) (Free ∷ bs) lens groups m k = absurd m
-numbers_agree g b (Begins e ∷ ps) (Counts len group ∷ bs) lens groups m k =
-    let r = k 0 len group refl in
-    ap₂ (λ x y. x ++ y) (ap₂ (piece_octets g b (Begins e)) r.0 r.1) (numbers_agree g (before_of (Begins e)) ps bs (drop 1 lens) (drop 1 groups) m (kept_behind (Counts len group) bs lens groups k))
-numbers_agree g b (Holds l ∷ ps) (c ∷ bs) lens groups m k = ap (λ y. piece_octets g b (Holds l) 0 0 ++ y) (numbers_agree g (before_of (Holds l)) ps bs (drop 1 lens) (drop 1 groups) m (kept_behind c bs lens groups k))
-numbers_agree g b (Ends e ∷ ps) (c ∷ bs) lens groups m k = ap (λ y. piece_octets g b (Ends e) 0 0 ++ y) (numbers_agree g (before_of (Ends e)) ps bs (drop 1 lens) (drop 1 groups) m (kept_behind c bs lens groups k))
-
-drop_one : {A : Type 0} (at : ℕ) (xs : List A) → drop 1 (drop at xs) ≡ drop (at + 1) xs
-drop_one at xs = drop-drop 1 at xs
-
-index_at : (at : ℕ) (xs : List ℕ) → slice_index (drop at xs) 0 ≡ slice_index xs at
-index_at zero xs = refl
-index_at (suc at) [] = refl
-index_at (suc at) (x ∷ xs) = index_at at xs
-
--- what is written from a place on is what is written at its piece and behind it
-pub octets_from : (g : Graph ℕ Simple) (b : Before) (ps : List Piece) (lens groups : List ℕ) (at : ℕ) (p : Piece) → slice_get ps at ≡ Some p
-    → pieces_octets g b (drop at ps) (drop at lens) (drop at groups) ≡ piece_octets g b p (slice_index lens at) (slice_index groups at) ++ pieces_octets g (before_of p) (drop (at + 1) ps) (drop (at + 1) lens) (drop (at + 1) groups)
-octets_from g b ps lens groups at p e =
-    let next : suc at ≡ at + 1 = omega arith in
-    ap (λ z. pieces_octets g b z (drop at lens) (drop at groups)) (drop_get ps at p e)
-    ∙ ap₂ (λ x y. x ++ y) (ap₂ (piece_octets g b p) (index_at at lens) (index_at at groups))
-    (ap₂ (λ x y. pieces_octets g (before_of p) (drop (suc at) ps) x y) (drop_one at lens) (drop_one at groups) ∙ ap (λ z. pieces_octets g (before_of p) (drop z ps) (drop (at + 1) lens) (drop (at + 1) groups)) next)
-
-pub octets_end : (g : Graph ℕ Simple) (b : Before) (ps : List Piece) (lens groups : List ℕ) (at : ℕ) → length ps ≤ at → pieces_octets g b (drop at ps) (drop at lens) (drop at groups) ≡ slots_behind g 0 b
-octets_end g b ps lens groups at l = ap (λ z. pieces_octets g b z (drop at lens) (drop at groups)) (drop_of_length-le ps l)
+pub octets_end : (g : Graph ℕ Simple) (b : Before) (ps : List Piece) (lens groups : List ℕ) (left at : ℕ) → length ps ≤ at → pieces_octets g b (drop at ps) lens groups left ≡ slots_behind g 0 b
+octets_end g b ps lens groups left at l = ap (λ z. pieces_octets g b z lens groups left) (drop_of_length-le ps l)
 
 -- a piece that is told at a place before the end is there
 pub is_there : (at : ℕ) (ps : List Piece) → at < length ps → slice_get ps at ≡ None → ⊥
@@ -69,23 +57,27 @@ is_there zero (p ∷ ps) l e = absurd cc
 is_there (suc at) (p ∷ ps) l e = is_there at ps (omega arith) e
 
 -- what is written from a place on is what is written there and behind it
-pub octets_on : (g : Graph ℕ Simple) (held : Held) (at : ℕ) → at < length held.region.pieces
-    → pieces_octets g (before_place held.region.pieces at) (drop at held.region.pieces) (drop at held.lens) (drop at held.groups)
-    ≡ octets_at g held at ++ pieces_octets g (before_place held.region.pieces (at + 1)) (drop (at + 1) held.region.pieces) (drop (at + 1) held.lens) (drop (at + 1) held.groups)
-octets_on g held at l = go (slice_get held.region.pieces at) refl
+pub octets_on : (g : Graph ℕ Simple) (held : Held) (at left : ℕ) → at < length held.region.pieces
+    → pieces_octets g (before_place held.region.pieces at) (drop at held.region.pieces) held.lens held.groups left
+    ≡ octets_at g held at left ++ pieces_octets g (before_place held.region.pieces (at + 1)) (drop (at + 1) held.region.pieces) held.lens held.groups (left_there (slice_get held.region.pieces at) left)
+octets_on g held at left l = go (slice_get held.region.pieces at) refl
   where
     ps : List Piece
     ps = held.region.pieces
 
     go : (o : Option Piece) → slice_get ps at ≡ o
-        → pieces_octets g (before_place ps at) (drop at ps) (drop at held.lens) (drop at held.groups) ≡ octets_at g held at ++ pieces_octets g (before_place ps (at + 1)) (drop (at + 1) ps) (drop (at + 1) held.lens) (drop (at + 1) held.groups)
+        → pieces_octets g (before_place ps at) (drop at ps) held.lens held.groups left
+        ≡ octets_at g held at left ++ pieces_octets g (before_place ps (at + 1)) (drop (at + 1) ps) held.lens held.groups (left_there (slice_get ps at) left)
     go None e = absurd (is_there at ps l e)
     go (Some p) e =
         let next : at + 1 ≡ suc at = omega arith in
         let before : before_place ps (at + 1) ≡ before_of p = ap (before_place ps) next ∙ ap behind_piece e in
-        octets_from g (before_place ps at) ps held.lens held.groups at p e
-        ∙ ap₂ (λ x y. x ++ y) (ap (λ o. octets_there g (before_place ps at) o (slice_index held.lens at) (slice_index held.groups at)) (sym e))
-        (ap (λ b. pieces_octets g b (drop (at + 1) ps) (drop (at + 1) held.lens) (drop (at + 1) held.groups)) (sym before))
+        let here : piece_octets g (before_place ps at) p (slice_index held.lens (left - 1)) (slice_index held.groups (left - 1)) ≡ octets_at g held at left =
+        ap (λ o. octets_there g (before_place ps at) o (slice_index held.lens (left - 1)) (slice_index held.groups (left - 1))) (sym e) in
+        ap (λ z. pieces_octets g (before_place ps at) z held.lens held.groups left) (drop_get ps at p e)
+        ∙ ap₂ (λ x y. x ++ y) here
+        (ap₂ (λ b o. pieces_octets g b (drop (suc at) ps) held.lens held.groups (left_there o left)) (sym before) (sym e)
+        ∙ ap (λ z. pieces_octets g (before_place ps (at + 1)) (drop z ps) held.lens held.groups (left_there (slice_get ps at) left)) (sym next))
 
 module _ (T : Tables) where
   abbrev m : DerMessage ℕ
@@ -100,8 +92,10 @@ module _ (T : Tables) where
   beside_then (p ∷ ps) qs [] cs l r q = absurd r
   beside_then (Begins e ∷ ps) qs (Free ∷ bs) cs l r q = absurd r
   beside_then (Begins e ∷ ps) qs (Counts len group ∷ bs) cs l r q = beside_then ps qs bs cs (omega arith) r q
-  beside_then (Holds x ∷ ps) qs (b ∷ bs) cs l r q = beside_then ps qs bs cs (omega arith) r q
-  beside_then (Ends e ∷ ps) qs (b ∷ bs) cs l r q = beside_then ps qs bs cs (omega arith) r q
+  beside_then (Holds x ∷ ps) qs (Free ∷ bs) cs l r q = beside_then ps qs bs cs (omega arith) r q
+  beside_then (Holds x ∷ ps) qs (Counts len group ∷ bs) cs l r q = absurd r
+  beside_then (Ends e ∷ ps) qs (Free ∷ bs) cs l r q = beside_then ps qs bs cs (omega arith) r q
+  beside_then (Ends e ∷ ps) qs (Counts len group ∷ bs) cs l r q = absurd r
 
   length-two : {A B : Type 0} (ps qs : List A) (bs cs : List B) → length ps ≡ length bs → length qs ≡ length cs → length (ps ++ qs) ≡ length (bs ++ cs)
   length-two [] qs [] cs l k = k
@@ -159,19 +153,38 @@ module _ (T : Tables) where
       sum_is g (Begun document_edge) (pieces_of fragment T v)
       ∙ (ap (λ z. length (counted_octets g (Begun document_edge) (pieces_of fragment T v) z)) (whole_staged v root a) ∙ ap length (whole_counted v root a))
 
+  -- the numbers of an instance that are kept are no more than its pieces
+  pub pairs_few : (v : Value) (held : Held) → AdmitsAs g (g 0) v → held.region.pieces ≡ pieces_of fragment T v → IsMeasured T held → 0 < length held.region.pieces → pairs_kept held ≤ length held.region.pieces
+  pairs_few v held a is measured some =
+      let few = kept_few held (pairs_kept held) (value_counts m 0 v) ((measured v a is).counts some) in
+      let long = (value_beside 0 v).0 in
+      let all : length held.region.pieces ≡ length (pieces_of fragment T v) = ap length is in
+      omega (arith, few, long, all)
+
   -- the DER of the instance is its head and what is written at its pieces
-  pub der_is : (v : Value) (held : Held) (len : ℕ) → HasRoot g → AdmitsAs g (g 0) v → held.region.pieces ≡ pieces_of fragment T v → IsMeasured T held
+  pub der_is : (v : Value) (held : Held) (len left : ℕ) → HasRoot g → AdmitsAs g (g 0) v → held.region.pieces ≡ pieces_of fragment T v → IsMeasured T held
       → (0 < length held.region.pieces → len ≡ slice_index held.lens (length held.region.pieces - 1)) → (length held.region.pieces ≡ 0 → len ≡ length (slots_behind g 0 (Begun document_edge)))
-      → head true (universal 16) len ++ pieces_octets g (Begun document_edge) held.region.pieces held.lens held.groups ≡ der_of m v
-  der_is v held len root a is measured some none =
+      → (0 < length held.region.pieces → left ≡ pairs_kept held) → head true (universal 16) len ++ pieces_octets g (Begun document_edge) held.region.pieces held.lens held.groups left ≡ der_of m v
+  der_is v held len left root a is measured some none pairs =
       let counts = measured v a is in
-      let written : pieces_octets g (Begun document_edge) held.region.pieces held.lens held.groups ≡ contents v =
-      ap (λ z. pieces_octets g (Begun document_edge) z held.lens held.groups) is
-      ∙ (numbers_agree g (Begun document_edge) (pieces_of fragment T v) (value_counts m 0 v) held.lens held.groups (value_beside 0 v).1 counts.counts ∙ whole_counted v root a) in
+      let written : pieces_octets g (Begun document_edge) held.region.pieces held.lens held.groups left ≡ contents v = octets held.region.pieces refl counts.counts in
       let length_is : len ≡ length (contents v) = size held.region.pieces refl written counts.whole in
       ap₂ (λ x y. head true (universal 16) x ++ y) length_is written ∙ sym (whole_form (g 0) v refl root.0 root.1 a).2
     where
-      size : (ps : List Piece) → held.region.pieces ≡ ps → pieces_octets g (Begun document_edge) held.region.pieces held.lens held.groups ≡ contents v
+      none_counted : (bs : List Beside) → counted_octets g (Begun document_edge) [] bs ≡ slots_behind g 0 (Begun document_edge)
+      none_counted bs = refl
+
+      octets : (ps : List Piece) → held.region.pieces ≡ ps → (0 < length held.region.pieces → AreKept held (pairs_kept held) (value_counts m 0 v))
+          → pieces_octets g (Begun document_edge) held.region.pieces held.lens held.groups left ≡ contents v
+      octets [] e kept =
+          ap (λ z. pieces_octets g (Begun document_edge) z held.lens held.groups left) e
+          ∙ (sym (none_counted (value_counts m 0 v)) ∙ (ap (λ z. counted_octets g (Begun document_edge) z (value_counts m 0 v)) (sym e ∙ is) ∙ whole_counted v root a))
+      octets (p ∷ ps) e kept =
+          let l : 0 < length held.region.pieces = subst (λ z. 0 < length z) (sym e) (omega arith) in
+          ap₂ (λ z n. pieces_octets g (Begun document_edge) z held.lens held.groups n) is (pairs l)
+          ∙ (numbers_agree g (Begun document_edge) (pieces_of fragment T v) (value_counts m 0 v) held (pairs_kept held) (value_beside 0 v).1 (kept l) ∙ whole_counted v root a)
+
+      size : (ps : List Piece) → held.region.pieces ≡ ps → pieces_octets g (Begun document_edge) held.region.pieces held.lens held.groups left ≡ contents v
           → (0 < length held.region.pieces → slice_index held.lens (length held.region.pieces - 1) ≡ length (contents v)) → len ≡ length (contents v)
-      size [] e written whole = none (ap length e) ∙ ap length (sym (ap (λ z. pieces_octets g (Begun document_edge) z held.lens held.groups) e) ∙ written)
+      size [] e written whole = none (ap length e) ∙ ap length (sym (ap (λ z. pieces_octets g (Begun document_edge) z held.lens held.groups left) e) ∙ written)
       size (p ∷ ps) e written whole = (let l : 0 < length held.region.pieces = subst (λ z. 0 < length z) (sym e) (omega arith) in some l ∙ whole l)

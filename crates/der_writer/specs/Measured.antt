@@ -1,5 +1,5 @@
--- The numbers that stand beside the pieces of an instance, so that its DER is written in one pass (X.690 §8.1.3, §10.1: a length stands before its contents).
-use Rattle.std.specs.Prelude.{◌≡◌, ℕ, ◌-◌, ◌<◌, List, [], ◌∷◌, ◌++◌, length, Option, Some, None, slice_get, slice_index}
+-- The numbers that are kept with an instance, so that its DER is written in one pass (X.690 §8.1.3, §10.1: a length stands before its contents).
+use Rattle.std.specs.Prelude.{◌≡◌, ℕ, zero, suc, ◌-◌, ◌<◌, List, [], ◌∷◌, ◌++◌, length, Option, Some, None, slice_get, slice_index}
 use Rattle.data_types.specs.Value.{Value, Children, Nothing, Child}
 use Rattle.data_types.specs.Value as value
 use Rattle.der_octets.specs.Octets.{octets}
@@ -11,7 +11,7 @@ use Rattle.message_model.specs.Tables.{Tables, types_of, edge_at, pieces_of}
 use Rattle.der_model.specs.DerMessage.{DerMessage, der_message}
 use Rattle.der_model.specs.Der.{Body, Octets, Inner, body, values_at}
 
--- what stands beside a piece: any two numbers, or these
+-- what belongs to a piece: no number, or these
 pub data Beside : Type 0 where
   Free : Beside
   Counts : (len group : ℕ) → Beside
@@ -28,7 +28,7 @@ slot_octets m k (Some s) children = octets (values_at m k s children)
 
 abbrev mutual
   -- Where an element begins, the number of its contents octets, and that of the octets of its slot from the element on: of a list's first
-  -- item the length of the list's contents. Beside leaves and ends anything.
+  -- item the length of the list's contents. No number belongs to leaves and ends.
   pub value_counts : DerMessage ℕ → ℕ → Value → List Beside
   value_counts m n (value.Component children) = child_counts m n children
   value_counts m n (value.Simple leaf) = Free ∷ []
@@ -42,9 +42,17 @@ abbrev mutual
       let target = (edge_at n k slot).target in
       Counts (length (contents_octets (body m (m.forms target) v))) (length (slot_octets m k slot (Child k v rest))) ∷ (value_counts m target v ++ (Free ∷ child_counts m n rest))
 
--- These numbers stand beside the pieces of the instance, and beside its last piece the number of the contents octets of the whole.
+-- So many pairs of numbers are kept, from place 0 on: those of the last element that begins stand first.
+abbrev pub AreKept : Held → ℕ → List Beside → Type 0
+AreKept held n (Free ∷ counts) = AreKept held n counts
+AreKept held zero [] = Unit {0}
+AreKept held (suc n) [] = ⊥
+AreKept held zero (Counts len group ∷ counts) = ⊥
+AreKept held (suc n) (Counts len group ∷ counts) = (slice_index held.lens n ≡ len) × (slice_index held.groups n ≡ group) × AreKept held n counts
+
+-- These numbers are kept, and at the place of the last piece the number of the contents octets of the whole and how many pairs there are.
 pub record HasCounts (m : DerMessage ℕ) (v : Value) (held : Held) : Type 0 where
-  pub counts : (at len group : ℕ) → slice_get (value_counts m m.root v) at ≡ Some (Counts len group) → (slice_index held.lens at ≡ len) × (slice_index held.groups at ≡ group)
+  pub counts : 0 < length held.region.pieces → AreKept held (slice_index held.groups (length held.region.pieces - 1)) (value_counts m m.root v)
   pub whole : 0 < length held.region.pieces → slice_index held.lens (length held.region.pieces - 1) ≡ length (contents_octets (body m (m.forms m.root) v))
 
 -- The lengths of the instance that the pieces are have been filled in.

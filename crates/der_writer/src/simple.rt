@@ -83,6 +83,9 @@ pub(crate) fn simple_before(
     if edge.target != last.target {
         return None;
     }
+    if edge.slot != last.slot {
+        return None;
+    }
     let Some(size) = size_at(instance, at - 1) else {
         return None;
     };

@@ -1,5 +1,5 @@
 //! The DER of an instance, pushed piece by piece: X.690 §8.1, §10.1.
-ghost use Rattle.std.specs.Prelude.{◌≡◌, ◌++◌, ◌<◌, ◌≤◌, ◌-◌, IsTrue, true, false, [], drop, length, slice_index, if◌then◌else◌};
+ghost use Rattle.std.specs.Prelude.{◌≡◌, ◌++◌, ◌<◌, ◌≤◌, ◌-◌, IsTrue, true, false, [], drop, length, slice_get, slice_index, if◌then◌else◌};
 ghost use Rattle.outside.specs.Pushes.{Pushes, as_push};
 ghost use Rattle.outside.specs.Gathering.{Gathers};
 ghost use Rattle.data_types.specs.Value.{Value, Begins};
@@ -12,7 +12,7 @@ ghost use Rattle.der_model.specs.DerMessage.{der_message};
 ghost use Rattle.der_model.specs.Der.{der_of};
 ghost use Rattle.der_writer.specs.Measured.{IsMeasured};
 ghost use Rattle.der_writer.specs.inner.PieceOctets.{Before, Begun, begin_octets, document_edge, empty_slots, goes_on, head, item_head, list_head, next_slot, own_slot, piece_octets, pieces_octets, sequence_slots, slots_behind};
-ghost use Rattle.der_writer.specs.inner.Measuring.{before_place, octets_at};
+ghost use Rattle.der_writer.specs.inner.Measuring.{before_place, left_there, octets_at, pairs_kept};
 
 use crate::contents::push_leaf;
 use crate::head::Head;
@@ -25,7 +25,7 @@ use inst_pool::{Edge, Instance, Piece};
 use message_model::Model;
 use outside::{Buffer, Sink, SinkError, WriteError};
 
-/// Pushes the heads with which an item of a list begins.
+/// Pushes the heads with which an item of a list begins, whose numbers are kept at a place.
 #[inline(never)]
 fn push_item<O: Sink>(
     model: &Model,
@@ -33,60 +33,62 @@ fn push_item<O: Sink>(
     next: u64,
     slot: u32,
     target: u32,
-    at: usize,
+    place: usize,
     sink: &mut O,
 ) -> Result<(), SinkError>
-    requires place { at < length instance.now.region.pieces }
+    requires place { place < length instance.now.region.pieces }
     requires slot { slot < 16384 }
-    ensures { (before : Before) → next ≡ next_slot before → Pushes O.held O.faults O.room sink.old sink.new result ((if goes_on before slot then [] else head true (context slot) (slice_index instance.now.groups at)) ++ item_head (types_of model.now target) (slice_index instance.now.lens at)) }
+    ensures { (before : Before) → next ≡ next_slot before → Pushes O.held O.faults O.room sink.old sink.new result ((if goes_on before slot then [] else head true (context slot) (slice_index instance.now.groups place)) ++ item_head (types_of model.now target) (slice_index instance.now.lens place)) }
 {
-    if let Err(error) = push_head(first_list(next, slot), instance.group(at), sink) {
+    if let Err(error) = push_head(first_list(next, slot), instance.group(place), sink) {
         return Err(error);
     }
-    push_head(item_head(model, target), instance.len(at), sink)
+    push_head(item_head(model, target), instance.len(place), sink)
 }
 
-/// Pushes the heads with which an element begins.
+/// Pushes the heads with which an element begins, whose numbers are kept at a place.
 #[inline(always)]
 fn push_opening<O: Sink>(
     model: &Model,
     instance: &Instance,
     next: u64,
     edge: Edge,
-    at: usize,
+    place: usize,
     sink: &mut O,
 ) -> Result<(), SinkError>
-    requires { at < length instance.now.region.pieces }
-    ensures { (before : Before) → next ≡ next_slot before → Pushes O.held O.faults O.room sink.old sink.new result (list_head (own_slot (types_of model.now) (edge_of edge)) before edge.slot (slice_index instance.now.groups at) ++ begin_octets (types_of model.now) (edge_of edge) (slice_index instance.now.lens at)) }
+    requires { place < length instance.now.region.pieces }
+    ensures { (before : Before) → next ≡ next_slot before → Pushes O.held O.faults O.room sink.old sink.new result (list_head (own_slot (types_of model.now) (edge_of edge)) before edge.slot (slice_index instance.now.groups place) ++ begin_octets (types_of model.now) (edge_of edge) (slice_index instance.now.lens place)) }
 {
     let _count = model.type_count();
     let Some(slot) = model.slot(edge.parent, edge.slot) else {
         return Ok(());
     };
     if !comes_once(slot.max) {
-        return push_item(model, instance, next, edge.slot, edge.target, at, sink);
+        return push_item(model, instance, next, edge.slot, edge.target, place, sink);
     }
     let constructed = is_constructed(model, edge.target);
-    push_context(constructed, edge.slot, instance.len(at), sink)
+    push_context(constructed, edge.slot, instance.len(place), sink)
 }
 
-/// Pushes what is written where an element begins.
+/// Pushes what is written where an element begins, whose numbers are kept at a place.
 #[inline(always)]
 fn push_begin<O: Sink>(
     model: &Model,
     instance: &Instance,
     edge: Edge,
     at: usize,
+    place: usize,
     sink: &mut O,
 ) -> Result<(), SinkError>
-    requires { at < length instance.now.region.pieces }
-    ensures { Pushes O.held O.faults O.room sink.old sink.new result (piece_octets (types_of model.now) (before_place instance.now.region.pieces at) (Begins (edge_of edge)) (slice_index instance.now.lens at) (slice_index instance.now.groups at)) }
+    requires at { at < length instance.now.region.pieces }
+    requires place { place < length instance.now.region.pieces }
+    ensures { Pushes O.held O.faults O.room sink.old sink.new result (piece_octets (types_of model.now) (before_place instance.now.region.pieces at) (Begins (edge_of edge)) (slice_index instance.now.lens place) (slice_index instance.now.groups place)) }
 {
     let next = next_at(instance, at);
     if let Err(error) = push_slots(model, edge.parent, next, edge.slot, sink) {
         return Err(error);
     }
-    push_opening(model, instance, next, edge, at, sink)
+    push_opening(model, instance, next, edge, place, sink)
 }
 
 /// Pushes what is written where an element ends. Where its type has no slots, what stands before is not asked for.
@@ -107,19 +109,43 @@ fn push_end<O: Sink>(
     push_behind(model, target, next_at(instance, at), sink)
 }
 
-/// Pushes what is written at the piece at a place.
+/// The place of the last of so many pairs of numbers.
+#[inline(always)]
+fn last_place(left: usize) -> usize
+    ensures { result ≡ left - 1 }
+{
+    left.saturating_sub(1)
+}
+
+/// How many pairs of numbers are left behind the piece at a place, of so many before it.
+#[inline(always)]
+fn left_after(instance: &Instance, at: usize, left: usize) -> usize
+    ensures left { result ≡ left_there (slice_get instance.now.region.pieces at) left }
+    ensures few { result ≤ left }
+{
+    match instance.piece(at) {
+        Some(Piece::Open(_)) => last_place(left),
+        Some(Piece::Leaf(_)) => left,
+        Some(Piece::Close(_)) => left,
+        None => left,
+    }
+}
+
+/// Pushes what is written at the piece at a place, where so many pairs of numbers are left.
 #[inline(always)]
 fn push_at<O: Sink>(
     model: &Model,
     instance: &Instance,
     at: usize,
+    left: usize,
     sink: &mut O,
 ) -> Result<(), SinkError>
-    requires { at < length instance.now.region.pieces }
-    ensures { Pushes O.held O.faults O.room sink.old sink.new result (octets_at (types_of model.now) instance.now at) }
+    requires at { at < length instance.now.region.pieces }
+    requires left { left ≤ length instance.now.region.pieces }
+    ensures { Pushes O.held O.faults O.room sink.old sink.new result (octets_at (types_of model.now) instance.now at left) }
 {
     match instance.piece(at) {
-        Some(Piece::Open(edge)) => push_begin(model, instance, edge, at, sink),
+        Some(Piece::Open(edge)) => { push_begin(model, instance, edge, at, last_place(left), sink) }
         Some(Piece::Leaf(leaf)) => {
             push_leaf(leaf_head(model, before_at(instance, at)), &leaf, sink)
         }
@@ -130,13 +156,14 @@ fn push_at<O: Sink>(
 
 /// Puts what is written at a piece into the buffer. `false` where it has not the room; it is as before.
 #[inline(always)]
-fn put_at(model: &Model, instance: &Instance, at: usize, buffer: &mut Buffer) -> bool
-    requires { at < length instance.now.region.pieces }
-    ensures put { IsTrue result → buffer.new ≡ buffer.old ++ octets_at (types_of model.now) instance.now at }
+fn put_at(model: &Model, instance: &Instance, at: usize, left: usize, buffer: &mut Buffer) -> bool
+    requires at { at < length instance.now.region.pieces }
+    requires left { left ≤ length instance.now.region.pieces }
+    ensures put { IsTrue result → buffer.new ≡ buffer.old ++ octets_at (types_of model.now) instance.now at left }
     ensures kept { result ≡ false → buffer.new ≡ buffer.old }
 {
     let count = buffer.len();
-    match push_at(model, instance, at, buffer) {
+    match push_at(model, instance, at, left, buffer) {
         Ok(()) => true,
         Err(_) => {
             buffer.truncate(count);
@@ -152,19 +179,21 @@ fn push_both<O: Sink>(
     model: &Model,
     instance: &Instance,
     at: usize,
+    left: usize,
     buffer: &mut Buffer,
     sink: &mut O,
 ) -> Result<(), SinkError>
-    requires { at < length instance.now.region.pieces }
-    ensures { Gathers O.held O.faults O.room sink.old sink.new buffer.old buffer.new result (octets_at (types_of model.now) instance.now at) }
+    requires at { at < length instance.now.region.pieces }
+    requires left { left ≤ length instance.now.region.pieces }
+    ensures { Gathers O.held O.faults O.room sink.old sink.new buffer.old buffer.new result (octets_at (types_of model.now) instance.now at left) }
 {
     if let Err(error) = buffer.flush(sink) {
         return Err(error);
     }
-    if put_at(model, instance, at, buffer) {
+    if put_at(model, instance, at, left, buffer) {
         return Ok(());
     }
-    push_at(model, instance, at, sink)
+    push_at(model, instance, at, left, sink)
 }
 
 /// Puts what is written at a piece into the buffer, where it has room, and else pushes both.
@@ -172,28 +201,39 @@ fn gather_at<O: Sink>(
     model: &Model,
     instance: &Instance,
     at: usize,
+    left: usize,
     buffer: &mut Buffer,
     sink: &mut O,
 ) -> Result<(), SinkError>
-    requires { at < length instance.now.region.pieces }
-    ensures { Gathers O.held O.faults O.room sink.old sink.new buffer.old buffer.new result (octets_at (types_of model.now) instance.now at) }
+    requires at { at < length instance.now.region.pieces }
+    requires left { left ≤ length instance.now.region.pieces }
+    ensures { Gathers O.held O.faults O.room sink.old sink.new buffer.old buffer.new result (octets_at (types_of model.now) instance.now at left) }
 {
-    if put_at(model, instance, at, buffer) {
+    if put_at(model, instance, at, left, buffer) {
         return Ok(());
     }
-    push_both(model, instance, at, buffer, sink)
+    push_both(model, instance, at, left, buffer, sink)
 }
 
-/// Pushes what is written at all pieces, by way of a buffer, and at the end of the whole.
-fn push_pieces<O: Sink>(model: &Model, instance: &Instance, sink: &mut O) -> Result<(), SinkError>
-    ensures { Pushes O.held O.faults O.room sink.old sink.new result (pieces_octets (types_of model.now) (Begun document_edge) instance.now.region.pieces instance.now.lens instance.now.groups) }
+/// Pushes what is written at all pieces, by way of a buffer, and at the end of the whole, where so many pairs of numbers are
+/// kept.
+fn push_pieces<O: Sink>(
+    model: &Model,
+    instance: &Instance,
+    kept: usize,
+    sink: &mut O,
+) -> Result<(), SinkError>
+    requires { kept ≤ length instance.now.region.pieces }
+    ensures { Pushes O.held O.faults O.room sink.old sink.new result (pieces_octets (types_of model.now) (Begun document_edge) instance.now.region.pieces instance.now.lens instance.now.groups kept) }
 {
     let mut buffer = Buffer::new();
+    let mut left = kept;
     let count = instance.count();
     for at in 0..count {
-        if let Err(error) = gather_at(model, instance, at, &mut buffer, sink) {
+        if let Err(error) = gather_at(model, instance, at, left, &mut buffer, sink) {
             return Err(error);
         }
+        left = left_after(instance, at, left);
     }
     push_rest(model, next_at(instance, count), buffer, sink)
 }
@@ -226,6 +266,19 @@ fn whole_len(model: &Model, instance: &Instance) -> u64
     }
 }
 
+/// How many pairs of numbers are kept, where the lengths have been filled in.
+fn pairs_kept(instance: &Instance) -> usize
+    requires { 0 < length instance.now.region.pieces → pairs_kept instance.now ≤ length instance.now.region.pieces }
+    ensures some { 0 < length instance.now.region.pieces → result ≡ pairs_kept instance.now }
+    ensures few { result ≤ length instance.now.region.pieces }
+{
+    let count = instance.count();
+    if count == 0 {
+        return 0;
+    }
+    instance.group(count - 1) as usize
+}
+
 /// Pushes the instance to a sink.
 fn push_instance<O: Sink>(model: &Model, instance: &Instance, sink: &mut O) -> Result<(), SinkError>
     requires measured { IsMeasured model.now instance.now }
@@ -238,7 +291,7 @@ fn push_instance<O: Sink>(model: &Model, instance: &Instance, sink: &mut O) -> R
     if let Err(error) = push_head(Some(Head::universal(true, 16)), len, sink) {
         return Err(error);
     }
-    push_pieces(model, instance, sink)
+    push_pieces(model, instance, pairs_kept(instance), sink)
 }
 
 /// Pushes the DER of the instance, whose lengths have been filled in by `measure`. After an error the sink holds a front

@@ -1,13 +1,13 @@
--- What the pass that fills in the lengths keeps beside the ends of elements, while their beginnings are still to come.
-use Rattle.std.specs.Prelude.{◌≡◌, ℕ, zero, suc, ◌+◌, ◌≤◌, ◌<◌, ◌==◌, List, [], ◌∷◌, length, Option, Some, None, slice_get, slice_index, if◌then◌else◌}
+-- What the pass that fills in the lengths keeps of elements that end, while their beginnings are still to come.
+use Rattle.std.specs.Prelude.{◌≡◌, ℕ, zero, suc, ◌+◌, ◌-◌, ◌≤◌, ◌==◌, List, [], ◌∷◌, length, Option, Some, None, slice_get, slice_index, if◌then◌else◌}
 use Rattle.data_types.specs.Leaf.{Leaf, octet_count}
 use Rattle.data_types.specs.Value.{Edge, Piece, Begins, Holds, Ends}
 use Rattle.facets.specs.declared.simple.Simple.{Simple}
 use Rattle.inst_pool.specs.Pieces.{Held}
 use Rattle.reference_check.specs.Forms.{Graph}
 use Rattle.der_model.specs.LeafContents.{leaf_contents}
-use Rattle.der_writer.specs.Measured.{Beside, Free, Counts}
-use Rattle.der_writer.specs.inner.PieceOctets.{Before, Begun, Filled, before_of, document_edge, leaf_octets, piece_octets, slots_behind}
+use Rattle.der_writer.specs.Measured.{Beside, Free, Counts, AreKept}
+use Rattle.der_writer.specs.inner.PieceOctets.{Before, Begun, Filled, before_of, document_edge, leaf_octets, left_behind, piece_octets, slots_behind}
 use Rattle.der_writer.specs.inner.Passes.{Frame, Stage}
 
 abbrev pub behind_piece : Option Piece → Before
@@ -23,9 +23,18 @@ abbrev pub octets_there : Graph ℕ Simple → Before → Option Piece → (len 
 octets_there g before None len group = []
 octets_there g before (Some piece) len group = piece_octets g before piece len group
 
--- what is written at the piece at a place, by the numbers beside it
-abbrev pub octets_at : Graph ℕ Simple → Held → ℕ → List ℕ
-octets_at g held at = octets_there g (before_place held.region.pieces at) (slice_get held.region.pieces at) (slice_index held.lens at) (slice_index held.groups at)
+-- what is written at the piece at a place, where so many pairs of numbers are left
+abbrev pub octets_at : Graph ℕ Simple → Held → ℕ → ℕ → List ℕ
+octets_at g held at left = octets_there g (before_place held.region.pieces at) (slice_get held.region.pieces at) (slice_index held.lens (left - 1)) (slice_index held.groups (left - 1))
+
+-- how many pairs are left behind the piece at a place
+abbrev pub left_there : Option Piece → ℕ → ℕ
+left_there None left = left
+left_there (Some piece) left = left_behind piece left
+
+-- how many pairs there are, where the lengths have been filled in
+abbrev pub pairs_kept : Held → ℕ
+pairs_kept held = slice_index held.groups (length held.region.pieces - 1)
 
 -- so many contents octets a leaf has; they are few more than its bytes
 abbrev pub IsSizeOf : Piece → ℕ → Type 0
@@ -41,39 +50,40 @@ abbrev pub following_piece : Option Piece → ℕ → ℕ → ℕ
 following_piece (Some (Begins edge)) group k = if edge.slot == k then group else 0
 following_piece piece group k = 0
 
-abbrev pub following_at : Held → ℕ → ℕ → ℕ
-following_at held at k = following_piece (slice_get held.region.pieces at) (slice_index held.groups at) k
+-- the same at a place behind which nothing is to be read any more, where so many pairs are kept
+abbrev pub following_at : Held → ℕ → ℕ → ℕ → ℕ
+following_at held at zero k = 0
+following_at held at (suc kept) k = following_piece (slice_get held.region.pieces at) (slice_index held.groups kept) k
 
--- The elements whose beginnings are to come end at these places, the innermost at the first, which is not below the bound. No element begins
--- there. Beside each end stand the number of octets behind it and the place of the next end, which is past the pieces where there is none.
-abbrev pub AreAwaited : Held → ℕ → ℕ → List Frame → Type 0
-AreAwaited held low around [] = length held.region.pieces ≤ around
-AreAwaited held low around (frame ∷ frames) =
-    (low ≤ around) × (around < length held.region.pieces) × ((k : ℕ) → following_at held around k ≡ 0) × (slice_index held.lens around ≡ frame.behind) × ((k : ℕ) → frame.following k ≡ following_at held (around + 1) k)
-    × AreAwaited held (around + 1) (slice_index held.groups around) frames
+-- The elements whose beginnings are to come, so many, the innermost first: what is known of each stands at a place, of the outermost at that of
+-- the last piece, and of each that it holds at the place before.
+abbrev pub AreAwaited : Held → ℕ → List Frame → Type 0
+AreAwaited held zero [] = Unit {0}
+AreAwaited held zero (frame ∷ frames) = ⊥
+AreAwaited held (suc ended) [] = ⊥
+AreAwaited held (suc ended) (frame ∷ frames) =
+    (slice_index held.lens (length held.region.pieces - suc ended) ≡ frame.behind) × (slice_index held.groups (length held.region.pieces - suc ended) ≡ frame.following) × AreAwaited held ended frames
 
--- The pass knows what a stage says, in front of the piece at a place.
-pub record Knows (held : Held) (at around total : ℕ) (s : Stage) : Type 0 where
+-- The pass knows what a stage says, in front of the piece at a place: so many pairs of numbers are kept, so many elements are awaited.
+pub record Knows (held : Held) (at kept ended total : ℕ) (s : Stage) : Type 0 where
   pub total_is : total ≡ s.sum
-  pub beside : (q len group : ℕ) → slice_get s.beside q ≡ Some (Counts len group) → (slice_index held.lens (at + q) ≡ len) × (slice_index held.groups (at + q) ≡ group)
-  pub ended : AreAwaited held at around s.frames
+  pub numbers : AreKept held kept s.beside
+  pub awaited : AreAwaited held ended s.frames
+  pub room : kept + ended + at ≤ length held.region.pieces
 
 -- no element has more octets behind it than there are, nor more that follow it
 abbrev pub AreFramesWithin : ℕ → List Frame → Type 0
 AreFramesWithin sum [] = Unit {0}
-AreFramesWithin sum (frame ∷ frames) = (frame.behind ≤ sum) × ((k : ℕ) → frame.following k ≤ frame.behind) × AreFramesWithin sum frames
+AreFramesWithin sum (frame ∷ frames) = (frame.behind ≤ sum) × (frame.following ≤ frame.behind) × AreFramesWithin sum frames
 
--- beside each beginning of an element stand numbers that count
+-- to each beginning of an element belong numbers, and to no other piece
 abbrev pub AreBeside : List Piece → List Beside → Type 0
 AreBeside [] bs = Unit {0}
 AreBeside (p ∷ ps) [] = ⊥
 AreBeside (Begins e ∷ ps) (Free ∷ bs) = ⊥
 AreBeside (Begins e ∷ ps) (Counts len group ∷ bs) = AreBeside ps bs
-AreBeside (p ∷ ps) (b ∷ bs) = AreBeside ps bs
-
--- these numbers stand there
-abbrev pub NumbersAreKept : List Beside → List ℕ → List ℕ → Type 0
-NumbersAreKept bs lens groups = (at len group : ℕ) → slice_get bs at ≡ Some (Counts len group) → (slice_index lens at ≡ len) × (slice_index groups at ≡ group)
+AreBeside (p ∷ ps) (Free ∷ bs) = AreBeside ps bs
+AreBeside (p ∷ ps) (Counts len group ∷ bs) = ⊥
 
 -- An element that begins at a place has three pieces: no slots stand behind its leaf, which has so many octets.
 pub record IsSimpleAt (g : Graph ℕ Simple) (pieces : List Piece) (at : ℕ) (edge : Edge) (size : ℕ) : Type 0 where
@@ -82,6 +92,7 @@ pub record IsSimpleAt (g : Graph ℕ Simple) (pieces : List Piece) (at : ℕ) (e
   pub begins : slice_get pieces at ≡ Some (Begins edge)
   pub holds : slice_get pieces (at + 1) ≡ Some (Holds leaf)
   pub ends : slice_get pieces (at + 2) ≡ Some (Ends last)
+  pub slot : last.slot ≡ edge.slot
   pub octets : size ≡ length (leaf_octets g (Begun edge) leaf)
   pub few : size ≤ octet_count leaf + 32
   pub none : length (slots_behind g last.target Filled) ≡ 0

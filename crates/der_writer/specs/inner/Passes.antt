@@ -6,14 +6,14 @@ use Rattle.reference_check.specs.Forms.{Graph}
 use Rattle.der_writer.specs.Measured.{Beside, Free, Counts}
 use Rattle.der_writer.specs.inner.PieceOctets.{Before, before_of, piece_octets, begin_octets, slots_behind}
 
--- an element whose beginning is still to come: how many octets stand behind its end, and how many of them are of a slot, by its number,
--- where an element of the slot follows at once
+-- an element whose beginning is still to come: how many octets stand behind its end, and how many of them are of its slot, where another
+-- element of the slot follows at once
 pub record Frame : Type 0 where
   pub behind : ℕ
-  pub following : ℕ → ℕ
+  pub following : ℕ
 
--- the number of octets from a piece on, the elements that it stands in and that begin before it, the innermost first, and what stands
--- beside the pieces from it on
+-- the number of octets from a piece on, the elements that it stands in and that begin before it, the innermost first, and what belongs
+-- to the pieces from it on
 pub record Stage : Type 0 where
   pub sum : ℕ
   pub frames : List Frame
@@ -25,7 +25,7 @@ following (Begins edge ∷ pieces) (Counts len group ∷ beside) k = if edge.slo
 following pieces beside k = 0
 
 abbrev pub innermost_frame : List Frame → Frame
-innermost_frame [] = record { behind = 0; following = λ k. 0 }
+innermost_frame [] = record { behind = 0; following = 0 }
 innermost_frame (frame ∷ frames) = frame
 
 -- one piece more, in front of others
@@ -33,11 +33,11 @@ abbrev pub piece_step : Graph ℕ Simple → Before → Piece → List Piece →
 piece_step g before (Begins edge) pieces r =
     let frame = innermost_frame r.frames in
     let len = r.sum - frame.behind in
-    let group = length (begin_octets g edge len) + len + frame.following edge.slot in
+    let group = length (begin_octets g edge len) + len + frame.following in
     record { sum = length (piece_octets g before (Begins edge) len group) + r.sum; frames = drop 1 r.frames; beside = Counts len group ∷ r.beside }
 piece_step g before (Holds leaf) pieces r = record { sum = length (piece_octets g before (Holds leaf) 0 0) + r.sum; frames = r.frames; beside = Free ∷ r.beside }
 piece_step g before (Ends edge) pieces r =
-    let frame : Frame = record { behind = r.sum; following = following pieces r.beside } in
+    let frame : Frame = record { behind = r.sum; following = following pieces r.beside edge.slot } in
     record { sum = length (piece_octets g before (Ends edge) 0 0) + r.sum; frames = frame ∷ r.frames; beside = Free ∷ r.beside }
 
 -- what the pass knows at the front of pieces, behind the piece before them

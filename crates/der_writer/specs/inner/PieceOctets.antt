@@ -101,11 +101,17 @@ piece_octets g before (Begins edge) len group = octets_before g before edge grou
 piece_octets g before (Holds leaf) len group = leaf_octets g before leaf
 piece_octets g before (Ends edge) len group = slots_behind g edge.target before
 
--- what is written at pieces and at the end of the whole, by the numbers beside each
-abbrev pub pieces_octets : Graph ℕ Simple → Before → List Piece → List ℕ → List ℕ → List ℕ
-pieces_octets g before [] lens groups = slots_behind g 0 before
-pieces_octets g before (piece ∷ pieces) lens groups =
-    piece_octets g before piece (slice_index lens 0) (slice_index groups 0) ++ pieces_octets g (before_of piece) pieces (drop 1 lens) (drop 1 groups)
+-- how many pairs of numbers are left behind a piece, of so many before it
+abbrev pub left_behind : Piece → ℕ → ℕ
+left_behind (Begins edge) left = left - 1
+left_behind piece left = left
+
+-- what is written at pieces and at the end of the whole, by the numbers that are kept, of which so many pairs are left: the last is that of
+-- the first element that begins
+abbrev pub pieces_octets : Graph ℕ Simple → Before → List Piece → List ℕ → List ℕ → ℕ → List ℕ
+pieces_octets g before [] lens groups left = slots_behind g 0 before
+pieces_octets g before (piece ∷ pieces) lens groups left =
+    piece_octets g before piece (slice_index lens (left - 1)) (slice_index groups (left - 1)) ++ pieces_octets g (before_of piece) pieces lens groups (left_behind piece left)
 
 abbrev pub len_of : Beside → ℕ
 len_of Free = 0

@@ -17,18 +17,19 @@ returns-clause-known c before next s k =
     let edge = edge_of c.args.edge in
     let count = c.count-count.ensures in
     let low = c.requires.place in
-    let kept = c.kept_at-inner.ensures (c.args.at + 1) s.frames k.ended in
+    let kept = c.last_ended-inner.ensures s.frames k.awaited in
+    let room = k.room in
     let len = s.sum - (innermost_frame s.frames).behind in
-    let group = length (begin_octets types edge len) + len + (innermost_frame s.frames).following edge.slot in
-    let told = c.args.pass.sum - c.kept_at-inner.result.behind in
+    let group = length (begin_octets types edge len) + len + (innermost_frame s.frames).following in
+    let told = c.args.pass.sum - c.last_ended-inner.result.behind in
     let len_is : told ≡ len = ap₂ (λ a b. a - b) k.total_is kept.0 in
     let head_is : c.begin_sizes-sizes.result.head ≡ length (begin_octets types edge len) = c.begin_sizes-sizes.ensures.head ∙ ap (λ z. length (begin_octets types edge z)) len_is in
-    let group_is : c.begin_sizes-sizes.result.head + told + c.kept_at-inner.result.following ≡ group = ap₂ (λ a b. a + b) (ap₂ (λ a b. a + b) head_is len_is) kept.1 in
+    let group_is : c.begin_sizes-sizes.result.head + told + c.last_ended-inner.result.following ≡ group = ap₂ (λ a b. a + b) (ap₂ (λ a b. a + b) head_is len_is) kept.1 in
     let between = λ (z : ℕ). empty_slots z (take (edge.slot - z) (drop z (sequence_slots (types edge.parent)))) in
     let between_is : c.slots_size-between.result ≡ length (slots_between types edge.parent before edge.slot) = c.slots_size-between.ensures.size ∙ ap (λ z. length (between z)) next in
     let list_is : c.begin_sizes-sizes.result.list ≡ length (list_head (own_slot types edge) before edge.slot group) = c.begin_sizes-sizes.ensures.list before next ∙ ap (λ z. length (list_head (own_slot types edge) before edge.slot z)) group_is in
-    let same = sets_same old c.set_len.new.self c.set_group.new.self c.args.at told (c.begin_sizes-sizes.result.head + told + c.kept_at-inner.result.following) (omega (arith, low, count.count, count.lens)) (omega (arith, low, count.count, count.groups))
+    let same = sets_same old c.set_len.new.self c.set_group.new.self c.args.pass.kept told (c.begin_sizes-sizes.result.head + told + c.last_ended-inner.result.following) (omega (arith, room, low, count.count, count.lens)) (omega (arith, room, low, count.count, count.groups))
     c.set_len.ensures.lens c.set_len.ensures.rest c.set_group.ensures.groups c.set_group.ensures.rest in
-    knows_begin old c.set_group.new.self c.args.at c.args.pass.around c.kept_at-inner.result.around c.args.pass.sum _ s k same.0 kept.2 len group (same.1 ∙ len_is) (same.2 ∙ group_is)
+    knows_begin old c.set_group.new.self c.args.at c.args.pass.kept c.args.pass.ended c.saturating_sub.result c.args.pass.sum _ s k c.saturating_sub.ensures same.0 len group (same.1 ∙ len_is) (same.2 ∙ group_is)
     (length (octets_before types before edge group ++ begin_octets types edge len))
     (sizes (slots_between types edge.parent before edge.slot) (list_head (own_slot types edge) before edge.slot group) (begin_octets types edge len) c.args.pass.sum _ _ _ between_is list_is head_is)

@@ -19,7 +19,7 @@ filled_size-filled-requires c =
 pub returns-clause-known : goal.returns-clause-known
 returns-clause-known c l there s k =
     let size = size_there c.args.instance.now.region.pieces c.args.at c.args.size (Holds l) there c.requires.size in
-    knows_free c.args.instance.now c.args.at c.args.pass.around c.args.pass.sum _ s k (length (leaf_octets (types_of c.args.model.now) (before_view c.args.before) l)) (ap (λ z. c.args.pass.sum + z) (c.filled_size-filled.ensures.size l size.0))
+    knows_free c.args.instance.now c.args.at c.args.pass.kept c.args.pass.ended c.args.pass.sum _ s k (length (leaf_octets (types_of c.args.model.now) (before_view c.args.before) l)) (ap (λ z. c.args.pass.sum + z) (c.filled_size-filled.ensures.size l size.0))
 
 pub returns-clause-most : goal.returns-clause-most
 returns-clause-most c p there =

@@ -14,7 +14,7 @@ returns-in_default-clause-known c =
     let ps = c.args.instance.now.region.pieces in
     let g = types_of c.args.model.now in
     let s = stage g (before_place ps (c.args.at + 1)) (drop (c.args.at + 1) ps) in
-    subst (Knows c.end.new.instance c.args.at c.end.result.around c.end.result.sum) (sym (stage_at g ps c.args.at (Ends (edge_of c.args.edge)) c.requires.piece))
+    subst (Knows c.end.new.instance c.args.at c.end.result.kept c.end.result.ended c.end.result.sum) (sym (stage_at g ps c.args.at (Ends (edge_of c.args.edge)) c.requires.piece))
     (c.end.ensures.known (before_place ps c.args.at) c.next_at-next.ensures s c.requires.known (stage_beside g (before_place ps (c.args.at + 1)) (drop (c.args.at + 1) ps)))
 
 pub returns-in_default-clause-most : goal.returns-in_default-clause-most
@@ -34,7 +34,7 @@ measure_simple-requires-clause-known c =
     let g = types_of c.args.model.now in
     let far = c.in-Some.ensures.place in
     let third : c.args.at + 1 ≡ c.args.at - 2 + 3 = omega (arith, far) in
-    subst (λ n. Knows c.args.instance.now n c.args.pass.around c.args.pass.sum (stage g (before_place ps n) (drop n ps))) third c.requires.known
+    subst (λ n. Knows c.args.instance.now n c.args.pass.kept c.args.pass.ended c.args.pass.sum (stage g (before_place ps n) (drop n ps))) third c.requires.known
 
 pub measure_simple-requires-clause-few : goal.measure_simple-requires-clause-few
 measure_simple-requires-clause-few c =

@@ -23,7 +23,7 @@ returns-in-Begun-clause-known c =
     let read = ap (before_place ps) (add-one c.args.at) ∙ sym c.read-seen.ensures.before in
     let is = begins_there p.0 (edge_of c.in-Begun.edge) (sym p.2 ∙ (read ∙ ap before_view c.in-Begun.is)) in
     let whole = stage_at g ps c.args.at (Begins (edge_of c.in-Begun.edge)) (p.1 ∙ ap (λ z. Some z) is) in
-    subst (Knows c.begin.new.instance c.args.at c.begin.result.around c.begin.result.sum) (sym whole) (c.begin.ensures.known (before_place ps c.args.at) c.next_at-next.ensures s c.requires.known)
+    subst (Knows c.begin.new.instance c.args.at c.begin.result.kept c.begin.result.ended c.begin.result.sum) (sym whole) (c.begin.ensures.known (before_place ps c.args.at) c.next_at-next.ensures s c.requires.known)
 
 pub returns-in-Begun-clause-most : goal.returns-in-Begun-clause-most
 returns-in-Begun-clause-most c =
@@ -41,7 +41,7 @@ returns-in-Filled-clause-known c =
     let is = holds_there p.0 (sym p.2 ∙ (read ∙ ap before_view c.in-Filled.is)) in
     let there = p.1 ∙ ap (λ z. Some z) is.1 in
     let whole = stage_at g ps c.args.at (Holds is.0) there in
-    subst (Knows c.args.instance.now c.args.at c.fill.result.around c.fill.result.sum) (ap (λ b. piece_step g b (Holds is.0) (drop (c.args.at + 1) ps) s) c.before_at-before.ensures ∙ sym whole) (c.fill.ensures.known is.0 there s c.requires.known)
+    subst (Knows c.args.instance.now c.args.at c.fill.result.kept c.fill.result.ended c.fill.result.sum) (ap (λ b. piece_step g b (Holds is.0) (drop (c.args.at + 1) ps) s) c.before_at-before.ensures ∙ sym whole) (c.fill.ensures.known is.0 there s c.requires.known)
 
 pub returns-in-Filled-clause-most : goal.returns-in-Filled-clause-most
 returns-in-Filled-clause-most c =

@@ -25,8 +25,8 @@ measure_piece-reached-requires-clause-known c =
     let some = c.loop-reached-test.true in
     let next : at ≡ at - 1 + 1 = omega (arith, some) in
     let same : ps ≡ c.loop-reached.instance.region.pieces = sym (ap (λ r. r.pieces) c.loop-reached.invariant.region) in
-    subst (λ z. Knows c.loop-reached.instance (at - 1 + 1) c.loop-reached.reached.pass.around c.loop-reached.reached.pass.sum (stage g (before_place z (at - 1 + 1)) (drop (at - 1 + 1) z))) same
-    (subst (λ n. Knows c.loop-reached.instance n c.loop-reached.reached.pass.around c.loop-reached.reached.pass.sum (stage g (before_place ps n) (drop n ps))) next c.loop-reached.invariant.known)
+    subst (λ z. Knows c.loop-reached.instance (at - 1 + 1) c.loop-reached.reached.pass.kept c.loop-reached.reached.pass.ended c.loop-reached.reached.pass.sum (stage g (before_place z (at - 1 + 1)) (drop (at - 1 + 1) z))) same
+    (subst (λ n. Knows c.loop-reached.instance n c.loop-reached.reached.pass.kept c.loop-reached.reached.pass.ended c.loop-reached.reached.pass.sum (stage g (before_place ps n) (drop n ps))) next c.loop-reached.invariant.known)
 
 pub loop-reached-preserved : goal.loop-reached-preserved
 loop-reached-preserved c =
@@ -46,6 +46,6 @@ loop-reached-preserved c =
     record {
       region = c.measure_piece-reached.ensures.region ∙ c.loop-reached.invariant.region;
       place = omega (arith, place, back);
-      known = subst (λ z. Knows c.measure_piece-reached.new.instance now.at now.pass.around now.pass.sum (stage g (before_place z now.at) (drop now.at z))) same c.measure_piece-reached.ensures.known;
+      known = subst (λ z. Knows c.measure_piece-reached.new.instance now.at now.pass.kept now.pass.ended now.pass.sum (stage g (before_place z now.at) (drop now.at z))) same c.measure_piece-reached.ensures.known;
       most = omega (arith, sum, before, behind, front, place, some, back);
     }

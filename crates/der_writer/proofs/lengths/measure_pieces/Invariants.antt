@@ -10,7 +10,7 @@ abbrev pub invariant-loop-reached : goal.invariant-loop-reached
 invariant-loop-reached l = record {
   region : l.instance.region ≡ l.fn.instance.region;
   place : l.reached.at ≤ length l.fn.instance.region.pieces;
-  known : Knows l.instance l.reached.at l.reached.pass.around l.reached.pass.sum (stage (types_of l.model) (before_place l.fn.instance.region.pieces l.reached.at) (drop l.reached.at l.fn.instance.region.pieces));
+  known : Knows l.instance l.reached.at l.reached.pass.kept l.reached.pass.ended l.reached.pass.sum (stage (types_of l.model) (before_place l.fn.instance.region.pieces l.reached.at) (drop l.reached.at l.fn.instance.region.pieces));
   most : l.reached.pass.sum ≤ (length l.fn.instance.region.pieces - l.reached.at + 1) * 50000 + bytes_of (drop l.reached.at l.fn.instance.region.pieces);
 }
 

@@ -9,7 +9,7 @@ use Rattle.der_writer.proofs.lengths.measure_simple.Goals as goal
 
 pub begin_sizes-sizes-requires : goal.begin_sizes-sizes-requires
 begin_sizes-sizes-requires c =
-    let follow = follows_within (types_of c.args.model.now) c.args.instance.now (c.args.at + 3) c.args.pass.around c.args.pass.sum c.args.element.edge.slot c.requires.known in
+    let follow = follows_within (types_of c.args.model.now) c.args.instance.now (c.args.at + 3) c.args.pass.kept c.args.pass.ended c.args.pass.sum c.args.element.edge.slot c.requires.known in
     let told = c.octets_following-following.ensures in
     let room = c.requires.room in
     let few = c.requires.few in
@@ -17,7 +17,7 @@ begin_sizes-sizes-requires c =
 
 pub overflow_add-sizes : goal.overflow_add-sizes
 overflow_add-sizes c =
-    let follow = follows_within (types_of c.args.model.now) c.args.instance.now (c.args.at + 3) c.args.pass.around c.args.pass.sum c.args.element.edge.slot c.requires.known in
+    let follow = follows_within (types_of c.args.model.now) c.args.instance.now (c.args.at + 3) c.args.pass.kept c.args.pass.ended c.args.pass.sum c.args.element.edge.slot c.requires.known in
     let told = c.octets_following-following.ensures in
     let room = c.requires.room in
     let few = c.requires.few in
@@ -26,7 +26,7 @@ overflow_add-sizes c =
 
 pub overflow_add-sizes-2 : goal.overflow_add-sizes-2
 overflow_add-sizes-2 c =
-    let follow = follows_within (types_of c.args.model.now) c.args.instance.now (c.args.at + 3) c.args.pass.around c.args.pass.sum c.args.element.edge.slot c.requires.known in
+    let follow = follows_within (types_of c.args.model.now) c.args.instance.now (c.args.at + 3) c.args.pass.kept c.args.pass.ended c.args.pass.sum c.args.element.edge.slot c.requires.known in
     let told = c.octets_following-following.ensures in
     let room = c.requires.room in
     let few = c.requires.few in
@@ -41,17 +41,18 @@ returns-clause-known c =
     let before = before_place old.region.pieces c.args.at in
     let count = c.count-count.ensures in
     let low = c.requires.place in
+    let room = c.requires.known.room in
     let size = c.args.element.size in
     let head = c.begin_sizes-sizes.result.head in
     let told = c.octets_following-following.result in
-    let follow : told ≡ following_at old (c.args.at + 3) edge.slot = c.octets_following-following.ensures in
-    let group = head + size + following_at old (c.args.at + 3) edge.slot in
+    let follow : told ≡ following_at old (c.args.at + 3) c.args.pass.kept edge.slot = c.octets_following-following.ensures in
+    let group = head + size + following_at old (c.args.at + 3) c.args.pass.kept edge.slot in
     let group_is : head + size + told ≡ group = ap (λ z. head + size + z) follow in
     let between = λ (z : ℕ). empty_slots z (take (edge.slot - z) (drop z (sequence_slots (types edge.parent)))) in
     let between_is : c.slots_size-between.result ≡ length (slots_between types edge.parent before edge.slot) = c.slots_size-between.ensures.size ∙ ap (λ z. length (between z)) c.next_at-next.ensures in
     let list_is : c.begin_sizes-sizes.result.list ≡ length (list_head (own_slot types edge) before edge.slot group) = c.begin_sizes-sizes.ensures.list before c.next_at-next.ensures ∙ ap (λ z. length (list_head (own_slot types edge) before edge.slot z)) group_is in
     let split = length-append (slots_between types edge.parent before edge.slot) (list_head (own_slot types edge) before edge.slot group) in
-    let same = sets_same old c.set_len.new.self c.set_group.new.self c.args.at size (head + size + told) (omega (arith, low, count.count, count.lens)) (omega (arith, low, count.count, count.groups))
+    let same = sets_same old c.set_len.new.self c.set_group.new.self c.args.pass.kept size (head + size + told) (omega (arith, room, low, count.count, count.lens)) (omega (arith, room, low, count.count, count.groups))
     c.set_len.ensures.lens c.set_len.ensures.rest c.set_group.ensures.groups c.set_group.ensures.rest in
-    knows_simple types old c.set_group.new.self c.args.at c.args.pass.around c.args.pass.sum _ edge size c.slots_size-between.result c.begin_sizes-sizes.result.list head c.requires.simple c.requires.known same.0 same.1 (same.2 ∙ group_is)
+    knows_simple types old c.set_group.new.self c.args.at c.args.pass.kept c.args.pass.ended c.args.pass.sum _ edge size c.slots_size-between.result c.begin_sizes-sizes.result.list head c.requires.simple c.requires.known same.0 same.1 (same.2 ∙ group_is)
     c.begin_sizes-sizes.ensures.head (omega (arith, between_is, list_is, split)) refl

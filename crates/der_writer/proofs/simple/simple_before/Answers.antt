@@ -25,6 +25,7 @@ returns-clause-simple c =
       begins = c.in-Some.ensures;
       holds = subst (λ n. slice_get ps n ≡ Some (Holds leaf)) second held.1;
       ends = subst (λ n. slice_get ps n ≡ Some (Ends (edge_of c.args.last))) third c.requires.last;
+      slot = sym c.if-edge-last-2.false;
       octets = size.0 ∙ ap length (sym contents ∙ ap (λ n. first_leaf (types n) leaf) (sym c.if-edge-last.false));
       few = size.1;
       none = ap (λ z. length (empty_slots 0 (drop 0 z))) (c.if-not-is_simple.ensures.slots refl);

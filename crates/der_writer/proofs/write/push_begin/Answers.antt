@@ -14,8 +14,8 @@ returns-in-Err g c =
     let edge = edge_of c.args.edge in
     let before = before_place c.args.instance.now.region.pieces c.args.at in
     let between = λ (k : _). empty_slots k (take (edge.slot - k) (drop k (sequence_slots (types edge.parent)))) in
-    let list = list_head (own_slot types edge) before edge.slot (slice_index c.args.instance.now.groups c.args.at) in
-    let own = begin_octets types edge (slice_index c.args.instance.now.lens c.args.at) in
+    let list = list_head (own_slot types edge) before edge.slot (slice_index c.args.instance.now.groups c.args.place) in
+    let own = begin_octets types edge (slice_index c.args.instance.now.lens c.args.place) in
     pair_stops g.O.Sink.held g.O.Sink.faults g.O.Sink.room (slots_between types edge.parent before edge.slot) (list ++ own) _ (sym (append_assoc (slots_between types edge.parent before edge.slot) list own)) _ _ c.in-Err.error
     (same_text g.O.Sink.held g.O.Sink.faults g.O.Sink.room _ _ (ap between c.next_at-next.ensures) _ _ _ c.in-Err.ensures)
 
@@ -25,8 +25,8 @@ returns g c =
     let edge = edge_of c.args.edge in
     let before = before_place c.args.instance.now.region.pieces c.args.at in
     let between = λ (k : _). empty_slots k (take (edge.slot - k) (drop k (sequence_slots (types edge.parent)))) in
-    let list = list_head (own_slot types edge) before edge.slot (slice_index c.args.instance.now.groups c.args.at) in
-    let own = begin_octets types edge (slice_index c.args.instance.now.lens c.args.at) in
+    let list = list_head (own_slot types edge) before edge.slot (slice_index c.args.instance.now.groups c.args.place) in
+    let own = begin_octets types edge (slice_index c.args.instance.now.lens c.args.place) in
     pair_ends g.O.Sink.held g.O.Sink.faults g.O.Sink.room (slots_between types edge.parent before edge.slot) (list ++ own) _ (sym (append_assoc (slots_between types edge.parent before edge.slot) list own)) _ _ _ c.push_opening.result
     (same_text g.O.Sink.held g.O.Sink.faults g.O.Sink.room _ _ (ap between c.next_at-next.ensures) _ _ _ c.in_default.ensures)
     (c.push_opening.ensures before c.next_at-next.ensures)

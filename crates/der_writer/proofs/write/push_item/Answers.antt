@@ -10,13 +10,13 @@ use Rattle.der_writer.proofs.write.push_item.Goals as goal
 pub returns-in-Err : goal.returns-in-Err
 returns-in-Err g c before next =
     let list = λ (z : _). if goes_on before c.args.slot then [] else head true (context c.args.slot) z in
-    pair_stops g.O.Sink.held g.O.Sink.faults g.O.Sink.room (list (slice_index c.args.instance.now.groups c.args.at)) (item_head (types_of c.args.model.now c.args.target) (slice_index c.args.instance.now.lens c.args.at)) _ refl _ _ c.in-Err.error
+    pair_stops g.O.Sink.held g.O.Sink.faults g.O.Sink.room (list (slice_index c.args.instance.now.groups c.args.place)) (item_head (types_of c.args.model.now c.args.target) (slice_index c.args.instance.now.lens c.args.place)) _ refl _ _ c.in-Err.error
     (same_text g.O.Sink.held g.O.Sink.faults g.O.Sink.room _ _ (c.first_list.ensures before next c.group.result ∙ ap list c.group.ensures) _ _ _ c.in-Err.ensures)
 
 pub returns : goal.returns
 returns g c before next =
     let list = λ (z : _). if goes_on before c.args.slot then [] else head true (context c.args.slot) z in
     let own = item_head (types_of c.args.model.now c.args.target) in
-    pair_ends g.O.Sink.held g.O.Sink.faults g.O.Sink.room (list (slice_index c.args.instance.now.groups c.args.at)) (own (slice_index c.args.instance.now.lens c.args.at)) _ refl _ _ _ c.push_head-2.result
+    pair_ends g.O.Sink.held g.O.Sink.faults g.O.Sink.room (list (slice_index c.args.instance.now.groups c.args.place)) (own (slice_index c.args.instance.now.lens c.args.place)) _ refl _ _ _ c.push_head-2.result
     (same_text g.O.Sink.held g.O.Sink.faults g.O.Sink.room _ _ (c.first_list.ensures before next c.group.result ∙ ap list c.group.ensures) _ _ _ c.in_default.ensures)
     (same_text g.O.Sink.held g.O.Sink.faults g.O.Sink.room _ _ (c.item_head.ensures c.len.result ∙ ap own c.len.ensures) _ _ _ c.push_head-2.ensures)
