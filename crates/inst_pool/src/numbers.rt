@@ -1,6 +1,5 @@
 //! A number beside each piece.
-ghost use Rattle.std.specs.Prelude.{◌≡◌, ◌<◌, ◌≤◌, [], length, replicate, slice_index, slice_set, OnOk, vec_capacity};
-ghost use Rattle.inst_pool.specs.inner.Numbers.{numbers_kept_in, AreKeptInForm};
+ghost use Rattle.std.specs.Prelude.{◌≡◌, ◌+◌, ◌-◌, ◌<◌, ◌≤◌, [], ◌∷◌, ◌++◌, length, replicate, reverse, slice_index, slice_set, OnOk, vec_capacity};
 
 use crate::room::widen;
 use std::alloc::{AllocError, Global};
@@ -9,36 +8,30 @@ use std::marker::Model;
 /// The greatest number of 32 bits.
 const MOST: u64 = 0xFFFF_FFFF;
 
-/// How the numbers are kept.
-#[derive(Clone, Copy, Debug)]
-pub(crate) enum Form {
-    /// Each is 0, and none is kept.
-    Zero,
-    /// In 32 bits each.
-    Narrow,
-    /// In 64 bits each.
-    Wide,
-}
-
-/// A list of numbers, in 32 bits each as long as none is greater. Neither block is written to before it is wanted, and where
-/// the narrow one has an item, all numbers stand in it.
+/// A list of numbers, in 32 bits each as long as none is greater. Those that are set one after the other, from the first on
+/// or from the last one down, are kept in two blocks, and what is between them is 0. So no block is written to before it is
+/// wanted, and none further than it is wanted.
 #[derive(Debug, Drop)]
 pub(crate) struct Numbers {
-    form: Form,
-    count: usize,
-    narrow: Vec<u32>,
+    /// The first ones.
+    front: Vec<u32>,
+    /// The place where the last ones begin. From those in front up to it all are 0.
+    behind: usize,
+    /// The last ones, the very last first.
+    back: Vec<u32>,
+    /// All of them, once one is greater; the other blocks are then empty.
     wide: Vec<u64>,
 }
 
 impl Model for Numbers {
-    ghost use Rattle.std.specs.Prelude.{◌≤◌, min, vec_capacity};
+    ghost use Rattle.std.specs.Prelude.{◌≤◌, length, min, vec_capacity};
     ghost use Rattle.inst_pool.specs.inner.Numbers.{Column, numbers_kept_in, AreKeptInForm};
 
     ghost Value = { Column };
 
-    ghost view = { λ n. record { items = numbers_kept_in n.form n.count n.narrow.items n.wide.items; room = min (vec_capacity n.narrow) (vec_capacity n.wide) } };
+    ghost view = { λ n. record { items = numbers_kept_in n.front.items n.behind n.back.items n.wide.items; room = min (min (vec_capacity n.front) (vec_capacity n.back)) (vec_capacity n.wide) } };
 
-    ghost invariant = { λ n. AreKeptInForm n.form n.count n.narrow.items n.wide.items × (n.count ≤ min (vec_capacity n.narrow) (vec_capacity n.wide)) };
+    ghost invariant = { λ n. AreKeptInForm n.front.items n.behind n.back.items n.wide.items (min (min (vec_capacity n.front) (vec_capacity n.back)) (vec_capacity n.wide)) };
 }
 
 impl Numbers {
@@ -47,9 +40,9 @@ impl Numbers {
         ensures { result.items ≡ [] }
     {
         Numbers {
-            form: Form::Zero,
-            count: 0,
-            narrow: Vec::new(alloc),
+            front: Vec::new(alloc),
+            behind: 0,
+            back: Vec::new(alloc),
             wide: Vec::new(alloc),
         }
     }
@@ -60,7 +53,8 @@ impl Numbers {
         ensures room { self.old.room ≤ self.new.room }
         ensures items { self.new.items ≡ self.old.items }
     {
-        widen(&mut self.narrow, room)?;
+        widen(&mut self.front, room)?;
+        widen(&mut self.back, room)?;
         widen(&mut self.wide, room)?;
         Ok(())
     }
@@ -71,10 +65,10 @@ impl Numbers {
         ensures items { self.new.items ≡ replicate count 0 }
         ensures room { self.new.room ≡ self.old.room }
     {
-        self.narrow.clear();
+        self.front.clear();
+        self.back.clear();
         self.wide.clear();
-        self.form = Form::Zero;
-        self.count = count;
+        self.behind = count;
     }
 
     /// The number at that place, from 0.
@@ -83,24 +77,17 @@ impl Numbers {
         requires { at < length self.now.items }
         ensures { result ≡ slice_index self.now.items at }
     {
-        if at < self.narrow.len() {
-            return self.narrow[at] as u64;
+        if at < self.front.len() {
+            return self.front[at] as u64;
         }
-        self.get_apart(at)
-    }
-
-    /// The same, however the numbers are kept.
-    #[cold]
-    #[inline(never)]
-    fn get_apart(&self, at: usize) -> u64
-        requires { at < length self.now.items }
-        ensures { result ≡ slice_index self.now.items at }
-    {
-        match self.form {
-            Form::Zero => 0,
-            Form::Narrow => self.narrow[at] as u64,
-            Form::Wide => self.wide[at],
+        if at < self.behind {
+            return 0;
         }
+        let place = at - self.behind;
+        if place < self.back.len() {
+            return self.back[self.back.len() - 1 - place] as u64;
+        }
+        self.wide[at]
     }
 
     /// Keeps a number at that place.
@@ -110,64 +97,81 @@ impl Numbers {
         ensures items { self.new.items ≡ slice_set self.old.items at number }
         ensures room { self.old.room ≤ self.new.room }
     {
-        if at < self.narrow.len() && number <= MOST {
-            self.narrow[at] = number as u32;
+        if number > MOST {
+            self.set_wide(at, number);
             return;
         }
-        self.set_apart(at, number);
+        let narrow = number as u32;
+        if at < self.front.len() {
+            self.front[at] = narrow;
+            return;
+        }
+        if at < self.behind {
+            if at == self.front.len() {
+                self.front.push_reserved(narrow);
+                return;
+            }
+            if at + 1 == self.behind {
+                self.back.push_reserved(narrow);
+                self.behind = at;
+                return;
+            }
+            add(&mut self.front, at, narrow);
+            return;
+        }
+        let place = at - self.behind;
+        if place < self.back.len() {
+            let last = self.back.len() - 1;
+            self.back[last - place] = narrow;
+            return;
+        }
+        self.set_wide(at, number);
     }
 
-    /// The same, however the numbers are kept.
+    /// The same, among wide ones, in which all are kept from then on.
     #[cold]
     #[inline(never)]
-    fn set_apart(&mut self, at: usize, number: u64)
+    fn set_wide(&mut self, at: usize, number: u64)
         requires { at < length self.old.items }
         ensures items { self.new.items ≡ slice_set self.old.items at number }
         ensures room { self.old.room ≤ self.new.room }
     {
-        match self.form {
-            Form::Zero => {
-                fill(&mut self.narrow, self.count);
-                self.form = keep(&mut self.narrow, &mut self.wide, at, number);
-            }
-            Form::Narrow => {
-                self.form = keep(&mut self.narrow, &mut self.wide, at, number);
-            }
-            Form::Wide => self.wide[at] = number,
+        if self.wide.is_empty() {
+            fill(&mut self.front, self.behind);
+            copy(self.front.as_slice(), &mut self.wide);
+            copy_back(self.back.as_slice(), &mut self.wide);
+            self.front.clear();
+            self.back.clear();
+            self.behind = 0;
         }
+        self.wide[at] = number;
     }
 }
 
-/// Fills a block with zeros.
+/// Keeps a number at a place behind those of a block, with zeros between.
+#[cold]
+#[inline(never)]
+fn add(block: &mut Vec<u32>, at: usize, number: u32)
+    requires place { length block.old.items ≤ at }
+    requires room { at < vec_capacity block.old }
+    ensures items { block.new.items ≡ (block.old.items ++ replicate (at - length block.old.items) 0) ++ number ∷ [] }
+    ensures room { vec_capacity block.old ≤ vec_capacity block.new }
+{
+    fill(block, at);
+    block.push_reserved(number);
+}
+
+/// Adds zeros to a block, so that it has so many items.
 fn fill(block: &mut Vec<u32>, count: usize)
-    requires empty { block.old.items ≡ [] }
+    requires place { length block.old.items ≤ count }
     requires room { count ≤ vec_capacity block.old }
-    ensures items { block.new.items ≡ replicate count 0 }
+    ensures items { block.new.items ≡ block.old.items ++ replicate (count - length block.old.items) 0 }
     ensures room { vec_capacity block.old ≤ vec_capacity block.new }
 {
     match block.resize(count, 0) {
         Ok(()) => {}
         Err(_) => unreachable!(),
     }
-}
-
-/// Keeps a number at a place of the narrow block, or all in the wide one where it is too great.
-fn keep(narrow: &mut Vec<u32>, wide: &mut Vec<u64>, at: usize, number: u64) -> Form
-    requires place { at < length narrow.old.items }
-    requires empty { wide.old.items ≡ [] }
-    requires room { length narrow.old.items ≤ vec_capacity wide.old }
-    ensures items { numbers_kept_in result (length narrow.old.items) narrow.new.items wide.new.items ≡ slice_set narrow.old.items at number }
-    ensures filled { AreKeptInForm result (length narrow.old.items) narrow.new.items wide.new.items }
-    ensures room { (vec_capacity narrow.new ≡ vec_capacity narrow.old) × (vec_capacity wide.new ≡ vec_capacity wide.old) }
-{
-    if number <= MOST {
-        narrow[at] = number as u32;
-        return Form::Narrow;
-    }
-    copy(narrow.as_slice(), wide);
-    narrow.clear();
-    wide[at] = number;
-    Form::Wide
 }
 
 /// Copies numbers into an empty block of wide ones.
@@ -179,5 +183,18 @@ fn copy(narrow: &[u32], wide: &mut Vec<u64>)
 {
     for number in narrow.iter() {
         wide.push_reserved(*number as u64);
+    }
+}
+
+/// Copies numbers behind wide ones, the last one first.
+fn copy_back(narrow: &[u32], wide: &mut Vec<u64>)
+    requires { length wide.old.items + length narrow.now ≤ vec_capacity wide.old }
+    ensures items { wide.new.items ≡ wide.old.items ++ reverse narrow.now }
+    ensures room { vec_capacity wide.new ≡ vec_capacity wide.old }
+{
+    let mut left = narrow;
+    while let Some((last, others)) = left.split_last() {
+        wide.push_reserved(*last as u64);
+        left = others;
     }
 }

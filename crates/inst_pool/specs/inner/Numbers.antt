@@ -1,19 +1,16 @@
 -- The numbers beside pieces.
-use Rattle.std.specs.Prelude.{◌≡◌, ℕ, List, [], length, replicate}
-use Rattle.inst_pool.specs.declared.numbers.Form.{Form}
-use Rattle.inst_pool.specs.declared.numbers.Form.TheVariants.{Zero, Narrow, Wide}
+use Rattle.std.specs.Prelude.{◌≡◌, ℕ, ◌+◌, ◌-◌, ◌<◌, ◌≤◌, List, ◌++◌, length, replicate, reverse}
 
--- the numbers, by how they are kept
-abbrev pub numbers_kept_in : Form → ℕ → List ℕ → List ℕ → List ℕ
-numbers_kept_in Zero count narrow wide = replicate count 0
-numbers_kept_in Narrow count narrow wide = narrow
-numbers_kept_in Wide count narrow wide = wide
+-- the numbers: those in front, zeros up to the place where those behind begin, these, of which the last is kept first, and
+-- those that are kept wide
+abbrev pub numbers_kept_in : List ℕ → ℕ → List ℕ → List ℕ → List ℕ
+numbers_kept_in front behind back wide = front ++ (replicate (behind - length front) 0 ++ (reverse back ++ wide))
 
--- so many numbers are kept so
-abbrev pub AreKeptInForm : Form → ℕ → List ℕ → List ℕ → Type 0
-AreKeptInForm Zero count narrow wide = (narrow ≡ []) × (wide ≡ [])
-AreKeptInForm Narrow count narrow wide = (length narrow ≡ count) × (wide ≡ [])
-AreKeptInForm Wide count narrow wide = (narrow ≡ []) × (length wide ≡ count)
+-- none in front is behind, where one is wide all are, and there is room for so many
+pub record AreKeptInForm (front : List ℕ) (behind : ℕ) (back wide : List ℕ) (room : ℕ) : Type 0 where
+  pub apart : length front ≤ behind
+  pub alone : 0 < length wide → behind + length back ≡ 0
+  pub fits : behind + length back + length wide ≤ room
 
 -- a list of numbers, and for how many in all there is room
 pub record Column : Type 0 where
