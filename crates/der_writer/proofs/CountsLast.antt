@@ -10,7 +10,7 @@ use Rattle.message_model.specs.Admits.{AdmitsAs}
 use Rattle.message_model.specs.Sound.{HasRoot}
 use Rattle.message_model.specs.Tables.{Tables, types_of, edge_at, pieces_of}
 use Rattle.der_model.specs.DerMessage.{DerMessage, der_message}
-use Rattle.der_writer.specs.Measured.{Beside, Free, Counts, value_counts, child_counts, AreKept, HasCounts}
+use Rattle.der_writer.specs.Measured.{Beside, Free, Sized, Counts, counts_of, is_plain, value_counts, child_counts, AreKept, HasCounts}
 use Rattle.der_writer.specs.inner.PieceOctets.{Begun, document_edge}
 use Rattle.der_writer.specs.inner.Passes.{stage}
 use Rattle.der_writer.specs.inner.Measuring.{Knows}
@@ -35,8 +35,10 @@ free_before (c ∷ cs) h = h
 fewer : (held : Held) (n : ℕ) (bs : List Beside) → EndsFree bs → AreKept held n bs → 0 < length bs → n < length bs
 fewer held n [] h k l = absurd (omega (arith, l))
 fewer held n (Free ∷ []) h k l = (let few = kept_few held n [] k in omega (arith, few))
+fewer held n (Sized len ∷ []) h k l = absurd cc
 fewer held n (Counts len group ∷ []) h k l = absurd cc
 fewer held n (Free ∷ c ∷ bs) h k l = (let some : 0 < length (c ∷ bs) = omega arith in let r = fewer held n (c ∷ bs) h k some in omega (arith, r))
+fewer held n (Sized len ∷ c ∷ bs) h k l = (let some : 0 < length (c ∷ bs) = omega arith in let r = fewer held n (c ∷ bs) h k some in omega (arith, r))
 fewer held zero (Counts len group ∷ c ∷ bs) h k l = absurd k
 fewer held (suc n) (Counts len group ∷ c ∷ bs) h (x, y, k) l = (let some : 0 < length (c ∷ bs) = omega arith in let r = fewer held n (c ∷ bs) h k some in omega (arith, r))
 
@@ -52,7 +54,7 @@ module _ (m : DerMessage ℕ) where
     child_free n value.Nothing = tt
     child_free n (value.Child k v rest) =
         let slot = slice_get (form_slots (m.forms n)) k in
-        free_then (Counts _ _ ∷ value_counts m (edge_at n k slot).target v) (child_counts m n rest) (free_before (child_counts m n rest) (child_free n rest))
+        free_then (counts_of (is_plain slot (m.forms (edge_at n k slot).target)) _ _ ∷ value_counts m (edge_at n k slot).target v) (child_counts m n rest) (free_before (child_counts m n rest) (child_free n rest))
 
 -- what the pass has left, and at the place of the last piece the whole length and how many pairs there are, are the numbers of the instance
 pub has_counts : (T : Tables) (v : Value) (mid new : Held) (kept ended sum : ℕ) → HasRoot (types_of T) → AdmitsAs (types_of T) (types_of T 0) v → new.region.pieces ≡ pieces_of fragment T v → new.region ≡ mid.region

@@ -1,6 +1,6 @@
 -- The pass knows one piece more: what it kept of the pieces behind stays, and what it keeps of this one is known.
-use Rattle.std.proofs.Common.{◌≡◌, ◌≢◌, ℕ, zero, suc, ◌+◌, ◌-◌, ◌≤◌, ◌<◌, true, false, List, [], ◌∷◌, length, drop, Option, Some, None, refl, sym, ap, ap₂, ◌∙◌, subst, arith, add-one}
-use Rattle.std.specs.Prelude.{slice_get, slice_index, slice_set, ◌==◌}
+use Rattle.std.proofs.Common.{◌≡◌, ◌≢◌, ℕ, zero, suc, ◌+◌, ◌-◌, ◌≤◌, ◌<◌, Bool, true, false, List, [], ◌∷◌, length, drop, Option, Some, None, refl, sym, ap, ◌∙◌, subst, arith, add-one}
+use Rattle.std.specs.Prelude.{slice_get, slice_index, slice_set, ◌==◌, if◌then◌else◌}
 use Rattle.std.proofs.lemmas.List.{get_or-set_same, get_or-set_other}
 use Rattle.std.proofs.lemmas.Bool.Decides.{nat_tests}
 use Rattle.std.proofs.lemmas.Bool.{cond-true, cond-false}
@@ -10,11 +10,18 @@ use Rattle.facets.specs.declared.simple.Simple.{Simple}
 use Rattle.inst_pool.specs.Pieces.{Held, piece_bytes, bytes_of}
 use Rattle.reference_check.specs.Forms.{Graph}
 use Rattle.der_model.proofs.BegunSlots.{drop_get}
-use Rattle.der_writer.specs.Measured.{Beside, Free, Counts, AreKept}
-use Rattle.der_writer.specs.inner.PieceOctets.{Begun, Filled, Ended, before_of}
+use Rattle.der_writer.specs.Measured.{Beside, Free, Sized, Counts, counts_of, AreKept}
+use Rattle.der_writer.specs.inner.PieceOctets.{Begun, Filled, Ended, before_of, plain_edge}
 use Rattle.der_writer.specs.inner.Passes.{Frame, Stage, following, innermost_frame, piece_step, stage}
+use Rattle.der_writer.proofs.PlainHeads.{no_other}
 use Rattle.der_writer.proofs.Whole.{is_there}
 use Rattle.der_writer.specs.inner.Measuring.{AreBeside, following_piece, following_at, AreAwaited, Knows, before_place, behind_piece, IsSizeOf, IsSizeAt}
+
+tests : (n k : ℕ) → n ≡ k → (n == k) ≡ true
+tests n k same = subst (λ z. (n == z) ≡ true) same (own n)
+  where
+    own : (n : ℕ) → (n == n) ≡ true
+    own n = grind (arith, nat_tests)
 
 apart : (a b : ℕ) → a < b → a ≢ b
 apart a b l e = absurd (omega (arith, l, e))
@@ -33,6 +40,7 @@ pub kept_same : (place : ℕ) (old new : Held) (n : ℕ) (bs : List Beside) → 
 kept_same place old new zero [] s l k = tt
 kept_same place old new (suc n) [] s l k = absurd k
 kept_same place old new n (Free ∷ bs) s l k = kept_same place old new n bs s l k
+kept_same place old new n (Sized len ∷ bs) s l k = kept_same place old new n bs s l k
 kept_same place old new zero (Counts len group ∷ bs) s l k = absurd k
 kept_same place old new (suc n) (Counts len group ∷ bs) s l (a, b, k) =
     let before : n < place = omega (arith, l) in
@@ -78,19 +86,23 @@ get_drop_some (x ∷ ps) qs zero p e = (let h : x ≡ p = cc in ap (λ z. Some z
 get_drop_some (x ∷ ps) qs (suc at) p e = get_drop_some ps qs at p e
 
 -- what follows is known by the last pair of numbers
-pub following_is : (held : Held) (at kept k : ℕ) (bs : List Beside) → AreBeside (drop at held.region.pieces) bs → AreKept held kept bs → following (drop at held.region.pieces) bs k ≡ following_at held at kept k
-following_is held at kept k bs are numbers = go kept (drop at held.region.pieces) bs refl are numbers
+pub following_is : (g : Graph ℕ Simple) (held : Held) (at kept k : ℕ) (bs : List Beside) → AreBeside g (drop at held.region.pieces) bs → AreKept held kept bs → following (drop at held.region.pieces) bs k ≡ following_at g held at kept k
+following_is g held at kept k bs are numbers = go kept (drop at held.region.pieces) bs refl are numbers
   where
-    there : (n : ℕ) (ps : List Piece) (p : Piece) → drop at held.region.pieces ≡ p ∷ ps → following_piece (Some p) (slice_index held.groups n) k ≡ following_at held at (suc n) k
-    there n ps p e = ap (λ z. following_piece z (slice_index held.groups n) k) (sym (get_drop_some held.region.pieces ps at p e))
+    there : (n : ℕ) (ps : List Piece) (p : Piece) → drop at held.region.pieces ≡ p ∷ ps → following_piece g (Some p) (slice_index held.groups n) k ≡ following_at g held at (suc n) k
+    there n ps p e = ap (λ z. following_piece g z (slice_index held.groups n) k) (sym (get_drop_some held.region.pieces ps at p e))
 
-    go : (n : ℕ) (ps : List Piece) (bs : List Beside) → drop at held.region.pieces ≡ ps → AreBeside ps bs → AreKept held n bs → following ps bs k ≡ following_at held at n k
+    go : (n : ℕ) (ps : List Piece) (bs : List Beside) → drop at held.region.pieces ≡ ps → AreBeside g ps bs → AreKept held n bs → following ps bs k ≡ following_at g held at n k
     go zero [] bs e are numbers = refl
-    go (suc n) [] bs e are numbers = ap (λ z. following_piece z (slice_index held.groups n) k) (sym (get_drop held.region.pieces at e))
+    go (suc n) [] bs e are numbers = ap (λ z. following_piece g z (slice_index held.groups n) k) (sym (get_drop held.region.pieces at e))
     go n (p ∷ ps) [] e are numbers = absurd are
     go n (Begins edge ∷ ps) (Free ∷ bs) e are numbers = absurd are
+    go zero (Begins edge ∷ ps) (Sized len ∷ bs) e are numbers = refl
+    go (suc n) (Begins edge ∷ ps) (Sized len ∷ bs) e (plain, are) numbers =
+        sym (no_other (edge.slot == k)) ∙ (ap (λ z. if edge.slot == k then z else 0) (sym (cond-true (plain_edge g edge) 0 (slice_index held.groups n) plain)) ∙ there n ps (Begins edge) e)
     go zero (Begins edge ∷ ps) (Counts len group ∷ bs) e are numbers = absurd numbers
-    go (suc n) (Begins edge ∷ ps) (Counts len group ∷ bs) e are (a, b, numbers) = ap (λ z. following_piece (Some (Begins edge)) z k) (sym b) ∙ there n ps (Begins edge) e
+    go (suc n) (Begins edge ∷ ps) (Counts len group ∷ bs) e (plain, are) (a, b, numbers) =
+        ap (λ z. if edge.slot == k then z else 0) (sym b ∙ sym (cond-false (plain_edge g edge) 0 (slice_index held.groups n) plain)) ∙ there n ps (Begins edge) e
     go zero (Holds l ∷ ps) (b ∷ bs) e are numbers = refl
     go (suc n) (Holds l ∷ ps) (b ∷ bs) e are numbers = there n ps (Holds l) e
     go zero (Ends edge ∷ ps) (b ∷ bs) e are numbers = refl
@@ -106,10 +118,10 @@ knows_free held at kept ended total sum s k x e = record {
 }
 
 -- an end, of which the sum and what follows are kept
-pub knows_end : (held new : Held) (at kept ended total sum place : ℕ) (s : Stage) (edge : Edge) → Knows held (at + 1) kept ended total s → place ≡ length held.region.pieces - suc ended → SameBut place held new
-    → slice_index new.lens place ≡ total → slice_index new.groups place ≡ following_at held (at + 1) kept edge.slot → AreBeside (drop (at + 1) held.region.pieces) s.beside → (x : ℕ) → sum ≡ total + x
+pub knows_end : (g : Graph ℕ Simple) (held new : Held) (at kept ended total sum place : ℕ) (s : Stage) (edge : Edge) → Knows held (at + 1) kept ended total s → place ≡ length held.region.pieces - suc ended → SameBut place held new
+    → slice_index new.lens place ≡ total → slice_index new.groups place ≡ following_at g held (at + 1) kept edge.slot → AreBeside g (drop (at + 1) held.region.pieces) s.beside → (x : ℕ) → sum ≡ total + x
     → Knows new at kept (ended + 1) sum (record { sum = x + s.sum; frames = record { behind = s.sum; following = following (drop (at + 1) held.region.pieces) s.beside edge.slot } ∷ s.frames; beside = Free ∷ s.beside })
-knows_end held new at kept ended total sum place s edge k where_is same len group are x e =
+knows_end g held new at kept ended total sum place s edge k where_is same len group are x e =
     let room = k.room in
     let free : kept ≤ place = omega (arith, room, where_is) in
     let less : place + ended < length held.region.pieces = omega (arith, room, where_is) in
@@ -119,17 +131,18 @@ knows_end held new at kept ended total sum place s edge k where_is same len grou
       numbers = kept_same place held new kept s.beside same free k.numbers;
       awaited = subst (λ n. AreAwaited new n (record { behind = s.sum; following = following (drop (at + 1) held.region.pieces) s.beside edge.slot } ∷ s.frames)) (sym (add-one ended)) (
         ap (slice_index new.lens) place_is ∙ (len ∙ k.total_is),
-        ap (slice_index new.groups) place_is ∙ (group ∙ sym (following_is held (at + 1) kept edge.slot s.beside are k.numbers)),
+        ap (slice_index new.groups) place_is ∙ (group ∙ sym (following_is g held (at + 1) kept edge.slot s.beside are k.numbers)),
         awaited_same place held new ended s.frames same less k.awaited,
       );
       room = (let all = ap (λ r. length r.pieces) same.region in omega (arith, room, all));
     }
 
 -- a beginning, of which both numbers are kept
-pub knows_begin : (held new : Held) (at kept ended less total sum : ℕ) (s : Stage) → Knows held (at + 1) kept ended total s → less ≡ ended - 1 → SameBut kept held new → (len group : ℕ)
+pub knows_begin : (p : Bool) (held new : Held) (at kept ended less total sum : ℕ) (s : Stage) → p ≡ false → Knows held (at + 1) kept ended total s → less ≡ ended - 1 → SameBut kept held new → (len group : ℕ)
     → slice_index new.lens kept ≡ len → slice_index new.groups kept ≡ group → (x : ℕ) → sum ≡ total + x
-    → Knows new at (kept + 1) less sum (record { sum = x + s.sum; frames = drop 1 s.frames; beside = Counts len group ∷ s.beside })
-knows_begin held new at kept ended less total sum s k less_is same len group l g x e =
+    → Knows new at (kept + 1) less sum (record { sum = x + s.sum; frames = drop 1 s.frames; beside = counts_of p len group ∷ s.beside })
+knows_begin true held new at kept ended less total sum s paired k less_is same len group l g x e = absurd cc
+knows_begin false held new at kept ended less total sum s paired k less_is same len group l g x e =
     let room = k.room in
     let free : kept + less < length held.region.pieces = omega (arith, room, less_is) in
     let all : kept ≤ kept = omega arith in
@@ -139,6 +152,17 @@ knows_begin held new at kept ended less total sum s k less_is same len group l g
       awaited = awaited_same kept held new less (drop 1 s.frames) same free (subst (λ n. AreAwaited held n (drop 1 s.frames)) (sym less_is) (awaited_behind held ended s.frames k.awaited));
       room = (let all = ap (λ r. length r.pieces) same.region in omega (arith, room, all, less_is));
     }
+
+-- a plain beginning: nothing is kept of it
+pub knows_plain : (p : Bool) (held : Held) (at kept ended less total sum : ℕ) (s : Stage) → p ≡ true → Knows held (at + 1) kept ended total s → less ≡ ended - 1 → (len group x : ℕ) → sum ≡ total + x
+    → Knows held at kept less sum (record { sum = x + s.sum; frames = drop 1 s.frames; beside = counts_of p len group ∷ s.beside })
+knows_plain false held at kept ended less total sum s plain k less_is len group x e = absurd cc
+knows_plain true held at kept ended less total sum s plain k less_is len group x e = record {
+  total_is = (let t = k.total_is in omega (arith, e, t));
+  numbers = k.numbers;
+  awaited = subst (λ n. AreAwaited held n (drop 1 s.frames)) (sym less_is) (awaited_behind held ended s.frames k.awaited);
+  room = (let room = k.room in omega (arith, room, less_is));
+}
 
 -- what was kept of the innermost element
 pub innermost_none : (held : Held) (ended : ℕ) (fs : List Frame) → ended ≡ 0 → AreAwaited held ended fs → (0 ≡ (innermost_frame fs).behind) × (0 ≡ (innermost_frame fs).following)
@@ -186,34 +210,28 @@ holds_there (Begins x) h = absurd cc
 holds_there (Holds l) h = (l, refl)
 holds_there (Ends x) h = absurd cc
 
--- an element that begins there
-pub following_begun : (held : Held) (at kept k : ℕ) (e : Edge) → slice_get held.region.pieces at ≡ Some (Begins e) → e.slot ≡ k → kept ≢ 0 → slice_index held.groups (kept - 1) ≡ following_at held at kept k
-following_begun held at zero k e there same some = absurd (some refl)
-following_begun held at (suc n) k e there same some =
-    let test : (e.slot == k) ≡ true = subst (λ z. (e.slot == z) ≡ true) same (own e.slot) in
+-- an element that begins there, and has a pair of numbers
+pub following_begun : (g : Graph ℕ Simple) (held : Held) (at kept k : ℕ) (e : Edge) → slice_get held.region.pieces at ≡ Some (Begins e) → e.slot ≡ k → plain_edge g e ≡ false → kept ≢ 0
+    → slice_index held.groups (kept - 1) ≡ following_at g held at kept k
+following_begun g held at zero k e there same plain some = absurd (some refl)
+following_begun g held at (suc n) k e there same plain some =
     let last : suc n - 1 ≡ n = omega arith in
-    ap (slice_index held.groups) last ∙ sym (ap (λ z. following_piece z (slice_index held.groups n) k) there ∙ cond-true (e.slot == k) (slice_index held.groups n) 0 test)
-  where
-    own : (n : ℕ) → (n == n) ≡ true
-    own n = grind (arith, nat_tests)
+    ap (slice_index held.groups) last
+    ∙ (sym (cond-false (plain_edge g e) 0 (slice_index held.groups n) plain)
+    ∙ sym (ap (λ z. following_piece g z (slice_index held.groups n) k) there ∙ cond-true (e.slot == k) _ 0 (tests e.slot k same)))
+
+-- a plain element that begins there
+pub following_plain : (g : Graph ℕ Simple) (held : Held) (at kept k : ℕ) (e : Edge) → slice_get held.region.pieces at ≡ Some (Begins e) → e.slot ≡ k → plain_edge g e ≡ true → 0 ≡ following_at g held at kept k
+following_plain g held at zero k e there same plain = refl
+following_plain g held at (suc n) k e there same plain =
+    sym (cond-true (plain_edge g e) 0 (slice_index held.groups n) plain) ∙ sym (ap (λ z. following_piece g z (slice_index held.groups n) k) there ∙ cond-true (e.slot == k) _ 0 (tests e.slot k same))
 
 -- an element of another slot that begins there
-pub following_other : (held : Held) (at kept k : ℕ) (e : Edge) → slice_get held.region.pieces at ≡ Some (Begins e) → e.slot ≢ k → 0 ≡ following_at held at kept k
-following_other held at zero k e there other = refl
-following_other held at (suc n) k e there other =
+pub following_other : (g : Graph ℕ Simple) (held : Held) (at kept k : ℕ) (e : Edge) → slice_get held.region.pieces at ≡ Some (Begins e) → e.slot ≢ k → 0 ≡ following_at g held at kept k
+following_other g held at zero k e there other = refl
+following_other g held at (suc n) k e there other =
     let test : (e.slot == k) ≡ false = grind (arith, nat_tests) in
-    sym (ap (λ z. following_piece z (slice_index held.groups n) k) there ∙ cond-false (e.slot == k) (slice_index held.groups n) 0 test)
-
--- no element begins there
-pub following_not : (held : Held) (at kept k : ℕ) → ((e : Edge) → slice_get held.region.pieces at ≡ Some (Begins e) → ⊥) → 0 ≡ following_at held at kept k
-following_not held at zero k none = refl
-following_not held at (suc n) k none = go (slice_get held.region.pieces at) none
-  where
-    go : (o : Option Piece) → ((e : Edge) → o ≡ Some (Begins e) → ⊥) → 0 ≡ following_piece o (slice_index held.groups n) k
-    go None none = refl
-    go (Some (Begins e)) none = absurd (none e refl)
-    go (Some (Holds l)) none = refl
-    go (Some (Ends e)) none = refl
+    sym (ap (λ z. following_piece g z (slice_index held.groups n) k) there ∙ cond-false (e.slot == k) _ 0 test)
 
 -- the size of the leaf that was read
 pub size_there : (ps : List Piece) (at size : ℕ) (p : Piece) → slice_get ps at ≡ Some p → IsSizeAt (slice_get ps at) size → IsSizeOf p size

@@ -1,4 +1,5 @@
 pub mod OctetLemmas
+pub mod PlainHeads
 pub mod ChildOctets
 pub mod ValueOctets
 pub mod Stages

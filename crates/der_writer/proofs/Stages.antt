@@ -1,5 +1,5 @@
 -- What the pass over pieces knows behind the pieces of a value: the numbers that belong beside them, and the elements that stand open.
-use Rattle.std.proofs.Common.{◌≡◌, ◌≢◌, ℕ, zero, suc, ◌+◌, ◌-◌, true, false, List, [], ◌∷◌, ◌++◌, length, replicate, drop, Option, Some, None, refl, sym, ap, ap₂, ◌∙◌, subst, arith, append_assoc, length-append, eqb, ◌⊎◌, inl, inr}
+use Rattle.std.proofs.Common.{◌≡◌, ◌≢◌, ℕ, zero, suc, ◌+◌, ◌-◌, Bool, true, false, List, [], ◌∷◌, ◌++◌, length, replicate, drop, Option, Some, None, refl, sym, ap, ap₂, ◌∙◌, subst, arith, append_assoc, length-append, eqb, ◌⊎◌, inl, inr}
 use Rattle.std.specs.Prelude.{slice_get, if◌then◌else◌, ◌==◌}
 use Rattle.std.proofs.lemmas.Bool.Decides.{eqb_tells}
 use Rattle.std.proofs.lemmas.Bool.{cond-true, cond-false}
@@ -15,23 +15,24 @@ use Rattle.message_model.specs.Tables.{Tables, types_of, edge_at, pieces, child_
 use Rattle.der_model.specs.DerMessage.{DerMessage, der_message}
 use Rattle.der_model.specs.Der.{body, values_at}
 use Rattle.der_model.proofs.ChildLists.{values_none}
-use Rattle.der_writer.specs.Measured.{Beside, Free, Counts, contents_octets, slot_octets, value_counts, child_counts}
-use Rattle.der_writer.specs.inner.PieceOctets.{Before, Begun, Filled, Ended, element_head, begin_octets, piece_octets, counted_octets, len_of, group_of}
+use Rattle.der_writer.specs.Measured.{Beside, Free, contents_octets, counts_of, is_plain, slot_octets, value_counts, child_counts}
+use Rattle.der_writer.specs.inner.PieceOctets.{Before, Begun, Filled, Ended, element_head, begin_octets, piece_octets, plain_edge, counted_octets, len_of, group_of}
 use Rattle.der_writer.specs.inner.Passes.{Frame, Stage, following, innermost_frame, piece_step, stage}
 use Rattle.der_writer.proofs.OctetLemmas.{body_fits}
+use Rattle.der_writer.proofs.PlainHeads.{counted_begin, counts_same, no_other, plain_at}
 use Rattle.der_writer.proofs.ChildOctets.{Comes, comes_on, slot_from}
 use Rattle.der_writer.proofs.ValueOctets.{value_octets}
-
-abbrev first : List Beside → Beside
-first [] = Free
-first (b ∷ bs) = b
 
 -- the sum is that of what is written by the numbers
 pub sum_is : (g : Graph ℕ Simple) (b : Before) (ps : List Piece) → (stage g b ps).sum ≡ length (counted_octets g b ps (stage g b ps).beside)
 sum_is g b [] = refl
 sum_is g b (Begins e ∷ ps) =
-    let front = piece_octets g b (Begins e) (len_of (first (stage g b (Begins e ∷ ps)).beside)) (group_of (first (stage g b (Begins e ∷ ps)).beside)) in
-    ap (λ n. length front + n) (sum_is g (Begun e) ps) ∙ sym (length-append front (counted_octets g (Begun e) ps (stage g (Begun e) ps).beside))
+    let r = stage g (Begun e) ps in
+    let len = r.sum - (innermost_frame r.frames).behind in
+    let group = length (begin_octets g e len) + len + (innermost_frame r.frames).following in
+    let counts = counts_of (plain_edge g e) len group in
+    let front = piece_octets g b (Begins e) (len_of counts) (group_of counts) in
+    ap₂ (λ x n. length x + n) (sym (counted_begin g b e len group)) (sum_is g (Begun e) ps) ∙ sym (length-append front (counted_octets g (Begun e) ps r.beside))
 sum_is g b (Holds l ∷ ps) = ap (λ n. length (piece_octets g b (Holds l) 0 0) + n) (sum_is g Filled ps) ∙ sym (length-append (piece_octets g b (Holds l) 0 0) (counted_octets g Filled ps (stage g Filled ps).beside))
 sum_is g b (Ends e ∷ ps) = ap (λ n. length (piece_octets g b (Ends e) 0 0) + n) (sum_is g (Ended e) ps) ∙ sym (length-append (piece_octets g b (Ends e) 0 0) (counted_octets g (Ended e) ps (stage g (Ended e) ps).beside))
 
@@ -59,29 +60,40 @@ module _ (T : Tables) where
   edge_slot n j None = refl
   edge_slot n j (Some s) = refl
 
-  -- the octets of the slot that follow a child
-  follows : (n : ℕ) (f : Form ℕ Simple) (e : Edge) (s : Slot ℕ) (rest : Children) (E : List Piece) (B : List Beside) → g n ≡ f → slice_get (form_slots f) e.slot ≡ Some s → Comes f (Ended e) rest → following E B e.slot ≡ 0
+  following_counts : (e : Edge) (ps : List Piece) (bs : List Beside) (p : Bool) (len group k : ℕ) → following (Begins e ∷ ps) (counts_of p len group ∷ bs) k ≡ (if e.slot == k then (if p then 0 else group) else 0)
+  following_counts e ps bs true len group k = sym (no_other (e.slot == k))
+  following_counts e ps bs false len group k = refl
+
+  -- the octets of the slot that follow a child that is not plain
+  follows : (n : ℕ) (f : Form ℕ Simple) (e : Edge) (s : Slot ℕ) (rest : Children) (E : List Piece) (B : List Beside) → g n ≡ f → slice_get (form_slots f) e.slot ≡ Some s → is_plain (Some s) (g s.target) ≡ false → Comes f (Ended e) rest → following E B e.slot ≡ 0
       → following (child_pieces fragment g n rest ++ E) (child_counts m n rest ++ B) e.slot ≡ length (octets (values_at m e.slot s rest))
-  follows n f e s value.Nothing E B at found come none = none
-  follows n f e s (value.Child j w more) E B at found come none =
-      ap (λ z. if z == e.slot then length (slot_octets m j (slice_get (form_slots (g n)) j) (value.Child j w more)) else 0) (edge_slot n j (slice_get (form_slots (g n)) j)) ∙ go (eqb_tells j e.slot)
+  follows n f e s value.Nothing E B at found plain come none = none
+  follows n f e s (value.Child j w more) E B at found plain come none =
+      following_counts (edge_at n j slot) ((pieces fragment g (edge_at n j slot).target w ++ (Ends (edge_at n j slot) ∷ child_pieces fragment g n more)) ++ E) ((value_counts m (edge_at n j slot).target w ++ (Free ∷ child_counts m n more)) ++ B)
+      (is_plain slot (g (edge_at n j slot).target)) (length (contents_octets (body m (g (edge_at n j slot).target) w))) (length (slot_octets m j slot (value.Child j w more))) e.slot
+      ∙ (ap (λ z. if z == e.slot then (if is_plain slot (g (edge_at n j slot).target) then 0 else length (slot_octets m j slot (value.Child j w more))) else 0) (edge_slot n j slot) ∙ go (eqb_tells j e.slot))
     where
-      go : ((eqb j e.slot ≡ true) × (j ≡ e.slot)) ⊎ ((eqb j e.slot ≡ false) × (j ≢ e.slot))
-          → (if j == e.slot then length (slot_octets m j (slice_get (form_slots (g n)) j) (value.Child j w more)) else 0) ≡ length (octets (values_at m e.slot s (value.Child j w more)))
+      slot : Option (Slot ℕ)
+      slot = slice_get (form_slots (g n)) j
+
+      counted : Option (Slot ℕ) → ℕ → ℕ
+      counted o i = if is_plain o (g (edge_at n i o).target) then 0 else length (slot_octets m i o (value.Child j w more))
+
+      go : ((eqb j e.slot ≡ true) × (j ≡ e.slot)) ⊎ ((eqb j e.slot ≡ false) × (j ≢ e.slot)) → (if j == e.slot then counted slot j else 0) ≡ length (octets (values_at m e.slot s (value.Child j w more)))
       go (inl t) =
           cond-true (j == e.slot) _ 0 t.0
-          ∙ (ap (λ z. length (slot_octets m z (slice_get (form_slots (g n)) z) (value.Child j w more))) t.1
-          ∙ (ap (λ z. length (slot_octets m e.slot (slice_get (form_slots z) e.slot) (value.Child j w more))) at
-          ∙ ap (λ z. length (slot_octets m e.slot z (value.Child j w more))) found))
+          ∙ (ap (λ z. counted (slice_get (form_slots (g n)) z) z) t.1
+          ∙ (ap (λ z. counted (slice_get (form_slots z) e.slot) e.slot) at
+          ∙ (ap (λ z. counted z e.slot) found ∙ cond-false (is_plain (Some s) (g s.target)) 0 _ plain)))
       go (inr t) = cond-false (j == e.slot) _ 0 t.0 ∙ sym (ap (λ z. length (octets z)) (none_before f e s j w more come t.1))
 
   -- the pass at the beginning of an element, where it knows what stands in it and behind it
   begins : (b : Before) (e : Edge) (ps : List Piece) (r : Stage) (x : ℕ) (frame : Frame) (F : List Frame) (bs : List Beside) → r.sum ≡ x + frame.behind → r.frames ≡ frame ∷ F → r.beside ≡ bs
-      → ((piece_step g b (Begins e) ps r).beside ≡ Counts x (length (begin_octets g e x) + x + frame.following) ∷ bs) × ((piece_step g b (Begins e) ps r).frames ≡ F)
+      → ((piece_step g b (Begins e) ps r).beside ≡ counts_of (plain_edge g e) x (length (begin_octets g e x) + x + frame.following) ∷ bs) × ((piece_step g b (Begins e) ps r).frames ≡ F)
   begins b e ps r x frame F bs sum frames beside =
       let difference : x + frame.behind - frame.behind ≡ x = omega arith in
       let len : r.sum - (innermost_frame r.frames).behind ≡ x = ap₂ (λ a fs. a - (innermost_frame fs).behind) sum frames ∙ difference in
-      (ap₂ (λ c t. c ∷ t) (ap₂ (λ l fs. Counts l (length (begin_octets g e l) + l + (innermost_frame fs).following)) len frames) beside, ap (drop 1) frames)
+      (ap₂ (λ c t. c ∷ t) (ap₂ (λ l fs. counts_of (plain_edge g e) l (length (begin_octets g e l) + l + (innermost_frame fs).following)) len frames) beside, ap (drop 1) frames)
 
   -- what the pass knows in front of children, where it is known in front of the end of their element
   abbrev IsStaged : Before → List Piece → List Beside → List Frame → Type 0
@@ -105,16 +117,16 @@ module _ (T : Tables) where
 
     abbrev IsChildStaged : Option (Slot ℕ) → Type 0
     IsChildStaged o = IsStaged b ((Begins (edge_at n k o) ∷ (pieces fragment g (edge_at n k o).target v ++ (Ends (edge_at n k o) ∷ child_pieces fragment g n rest))) ++ E)
-        ((Counts (length (contents_octets (body m (g (edge_at n k o).target) v))) (length (slot_octets m k o (value.Child k v rest))) ∷ (value_counts m (edge_at n k o).target v ++ (Free ∷ child_counts m n rest))) ++ B) F
+        ((counts_of (is_plain o (g (edge_at n k o).target)) (length (contents_octets (body m (g (edge_at n k o).target) v))) (length (slot_octets m k o (value.Child k v rest))) ∷ (value_counts m (edge_at n k o).target v ++ (Free ∷ child_counts m n rest))) ++ B) F
 
     -- the octets of the slot from the child on
-    group_is : g n ≡ f → slice_get (form_slots f) k ≡ Some s → AdmitsAs g (g s.target) v → Comes f (Ended edge) rest → following E B k ≡ 0 → later.beside ≡ child_counts m n rest ++ B
+    group_is : g n ≡ f → slice_get (form_slots f) k ≡ Some s → is_plain (Some s) (g s.target) ≡ false → AdmitsAs g (g s.target) v → Comes f (Ended edge) rest → following E B k ≡ 0 → later.beside ≡ child_counts m n rest ++ B
         → length (begin_octets g edge (length contents)) + length contents + following behind later.beside k ≡ length (octets (values_at m k s (value.Child k v rest)))
-    group_is at there a come none beside =
+    group_is at there plain a come none beside =
         let found : slice_get (form_slots (g n)) k ≡ Some s = subst (λ z. slice_get (form_slots z) k ≡ Some s) (sym at) there in
         let head = element_head (Some s) (g s.target) k (length contents) in
         let own : length (begin_octets g edge (length contents)) ≡ length head = ap (λ z. length (element_head z (g s.target) k (length contents))) found in
-        let next : following behind later.beside k ≡ length (octets (values_at m k s rest)) = ap (λ z. following behind z k) beside ∙ follows n f edge s rest E B at there come none in
+        let next : following behind later.beside k ≡ length (octets (values_at m k s rest)) = ap (λ z. following behind z k) beside ∙ follows n f edge s rest E B at there plain come none in
         let all : length (octets (values_at m k s (value.Child k v rest))) ≡ length (head ++ (contents ++ octets (values_at m k s rest))) = ap length (slot_from m v rest edge s (body_fits m (g s.target) v a)) in
         let one = length-append head (contents ++ octets (values_at m k s rest)) in
         let two = length-append contents (octets (values_at m k s rest)) in
@@ -139,9 +151,11 @@ module _ (T : Tables) where
         ap (λ z. value_counts m s.target v ++ (Free ∷ z)) after.0 ∙ sym (append_assoc (value_counts m s.target v) (Free ∷ child_counts m n rest) B) in
         let done = begins b edge (pieces fragment g s.target v ++ (Ends edge ∷ behind)) r (length contents) frame F ((value_counts m s.target v ++ (Free ∷ child_counts m n rest)) ++ B)
         sum (inside.1 ∙ ap (λ z. frame ∷ z) after.1) (inside.0 ∙ bs) in
+        let own_group = length (begin_octets g edge (length contents)) + length contents + frame.following in
+        let plain_is : plain_edge g edge ≡ is_plain (Some s) (g s.target) = plain_at g n k (Some s) found in
         let one : IsChildStaged (Some s) =
-        subst (λ z. IsStaged b (Begins edge ∷ z) (Counts (length contents) (length (octets (values_at m k s (value.Child k v rest)))) ∷ ((value_counts m s.target v ++ (Free ∷ child_counts m n rest)) ++ B)) F) (sym regrouped)
-        (done.0 ∙ ap (λ z. Counts (length contents) z ∷ ((value_counts m s.target v ++ (Free ∷ child_counts m n rest)) ++ B)) (group_is at there a come none after.0), done.1) in
+        subst (λ z. IsStaged b (Begins edge ∷ z) (counts_of (is_plain (Some s) (g s.target)) (length contents) (length (octets (values_at m k s (value.Child k v rest)))) ∷ ((value_counts m s.target v ++ (Free ∷ child_counts m n rest)) ++ B)) F) (sym regrouped)
+        (done.0 ∙ ap (λ z. z ∷ ((value_counts m s.target v ++ (Free ∷ child_counts m n rest)) ++ B)) (ap (λ p. counts_of p (length contents) own_group) plain_is ∙ counts_same (is_plain (Some s) (g s.target)) (length contents) own_group _ (λ plain. group_is at there plain a come none after.0)), done.1) in
         subst IsChildStaged (sym found) one
 
   mutual

@@ -15,9 +15,10 @@ use Rattle.message_model.specs.Tables.{Tables, types_of, edge_at, pieces, child_
 use Rattle.der_model.specs.LeafContents.{leaf_contents}
 use Rattle.der_model.specs.DerMessage.{DerMessage, der_message}
 use Rattle.der_model.specs.Der.{body, values_at}
-use Rattle.der_writer.specs.Measured.{Beside, Free, Counts, contents_octets, slot_octets, value_counts, child_counts}
-use Rattle.der_writer.specs.inner.PieceOctets.{Before, Begun, Filled, Ended, next_slot, empty_slots, sequence_slots, slots_behind, list_head, element_head, tagged_leaf, first_leaf, piece_octets, counted_octets}
+use Rattle.der_writer.specs.Measured.{Beside, Free, contents_octets, counts_of, is_plain, slot_octets, value_counts, child_counts}
+use Rattle.der_writer.specs.inner.PieceOctets.{Before, Begun, Filled, Ended, next_slot, empty_slots, sequence_slots, slots_behind, list_head, element_head, tagged_leaf, first_leaf, group_of, len_of, piece_octets, plain_edge, counted_octets}
 use Rattle.der_writer.proofs.OctetLemmas.{wrapped_is, body_fits}
+use Rattle.der_writer.proofs.PlainHeads.{counted_begin, plain_at}
 use Rattle.der_writer.proofs.ChildOctets.{rest_octets, Comes, child_octets, comes_on, rest_none}
 
 module _ (T : Tables) where
@@ -54,7 +55,7 @@ module _ (T : Tables) where
 
     abbrev IsWritten : Option (Slot ℕ) → Type 0
     IsWritten o = counted_octets g b ((Begins (edge_at n k o) ∷ (pieces fragment g (edge_at n k o).target v ++ (Ends (edge_at n k o) ∷ child_pieces fragment g n rest))) ++ E)
-        ((Counts (length (contents_octets (body m (g (edge_at n k o).target) v))) (length (slot_octets m k o (value.Child k v rest))) ∷ (value_counts m (edge_at n k o).target v ++ (Free ∷ child_counts m n rest))) ++ bs)
+        ((counts_of (is_plain o (g (edge_at n k o).target)) (length (contents_octets (body m (g (edge_at n k o).target) v))) (length (slot_octets m k o (value.Child k v rest))) ∷ (value_counts m (edge_at n k o).target v ++ (Free ∷ child_counts m n rest))) ++ bs)
         ≡ rest_octets m f b (value.Child k v rest) ++ X
 
     child_step : g n ≡ f → slice_get (form_slots f) k ≡ Some s → AdmitsAs g (g s.target) v → Comes f b (value.Child k v rest)
@@ -66,8 +67,10 @@ module _ (T : Tables) where
         let inside : counted_octets g (Begun edge) ((pieces fragment g s.target v ++ (Ends edge ∷ child_pieces fragment g n rest)) ++ E) ((value_counts m s.target v ++ (Free ∷ child_counts m n rest)) ++ bs) ≡ contents ++ (rest_octets m f (Ended edge) rest ++ X) =
         ap₂ (counted_octets g (Begun edge)) (append_assoc (pieces fragment g s.target v) (Ends edge ∷ child_pieces fragment g n rest) E) (append_assoc (value_counts m s.target v) (Free ∷ child_counts m n rest) bs)
         ∙ (here (child_pieces fragment g n rest ++ E) (child_counts m n rest ++ bs) ∙ ap (λ z. contents ++ z) behind) in
+        let plain_is : is_plain (Some s) (g s.target) ≡ plain_edge g edge = sym (plain_at g n k (Some s) found) in
+        let begun = λ (p : _). piece_octets g b (Begins edge) (len_of (counts_of p (length contents) group)) (group_of (counts_of p (length contents) group)) in
         let one : IsWritten (Some s) =
-        ap₂ (λ x y. x ++ y) (begin_at n k s f b (length contents) group at there) inside
+        ap₂ (λ x y. x ++ y) (ap begun plain_is ∙ (counted_begin g b edge (length contents) group ∙ begin_at n k s f b (length contents) group at there)) inside
         ∙ (regroup front (element_head (Some s) (g s.target) k (length contents)) contents (rest_octets m f (Ended edge) rest) X
         ∙ ap (λ z. z ++ X) (sym (child_octets m v rest edge s (body_fits m (g s.target) v a) f b there come))) in
         subst IsWritten (sym found) one

@@ -3,14 +3,14 @@
 //! that few pages are touched: those of the first element stand last. What the pass has to know of elements that have ended and
 //! not begun it keeps as a stack at the last places, so that it takes no memory. A piece adds less than 50,000 octets to its own
 //! bytes, and a region has at most 2^48 pieces and bytes, so that no sum comes to 15 * 10^18.
-ghost use Rattle.std.specs.Prelude.{◌≡◌, ℕ, ◌+◌, ◌*◌, ◌<◌, ◌≤◌, List, length, drop, Some, slice_get, slice_set, ◌-◌};
+ghost use Rattle.std.specs.Prelude.{◌≡◌, true, false, ℕ, ◌+◌, ◌*◌, ◌<◌, ◌≤◌, List, length, drop, Some, slice_get, slice_set, ◌-◌};
 ghost use Rattle.data_types.specs.Leaf.{Leaf};
 ghost use Rattle.data_types.specs.Value.{Piece as PieceOf, Begins, Holds, Ends};
 ghost use Rattle.inst_pool.specs.Pieces.{edge_of, piece_bytes, bytes_of};
 ghost use Rattle.message_model.specs.Tables.{types_of};
 ghost use Rattle.der_model.specs.LeafContents.{leaf_contents};
 ghost use Rattle.der_writer.specs.Measured.{IsMeasured};
-ghost use Rattle.der_writer.specs.inner.PieceOctets.{Before as BeforeOf, Begun, document_edge, leaf_octets, next_slot};
+ghost use Rattle.der_writer.specs.inner.PieceOctets.{Before as BeforeOf, Begun, document_edge, leaf_octets, next_slot, plain_edge};
 ghost use Rattle.der_writer.specs.inner.Passes.{Frame, Stage, innermost_frame, piece_step, stage};
 ghost use Rattle.der_writer.specs.inner.Measuring.{AreBeside, AreAwaited, AreFramesWithin, Knows, IsSizeAt, IsSimpleAt, before_place, behind_piece, following_at};
 ghost use Rattle.der_writer.specs.inner.Heads.{before_view};
@@ -20,7 +20,7 @@ use crate::heads::head_size;
 use crate::openings::begin_sizes;
 use crate::pieces::{Before, leaf_head};
 use crate::places::{before_at, next_at};
-use crate::simple::{SimpleElement, simple_before};
+use crate::simple::{SimpleElement, is_plain, simple_before};
 use crate::slots::{behind_size, rest_size, slots_size};
 use inst_pool::{Edge, Instance, Piece};
 use message_model::Model;
@@ -81,9 +81,9 @@ fn read(instance: &Instance, at: usize) -> Seen
 
 /// How many octets of a slot stand at a place, where an element of the slot begins there, whose numbers are the last of so
 /// many that are kept.
-fn octets_following(instance: &Instance, at: usize, kept: usize, slot: u32) -> u64
+fn octets_following(model: &Model, instance: &Instance, at: usize, kept: usize, slot: u32) -> u64
     requires { kept ≤ length instance.now.region.pieces }
-    ensures { result ≡ following_at instance.now at kept slot }
+    ensures { result ≡ following_at (types_of model.now) instance.now at kept slot }
 {
     let _count = instance.count();
     if kept == 0 {
@@ -92,11 +92,13 @@ fn octets_following(instance: &Instance, at: usize, kept: usize, slot: u32) -> u
     let Some(Piece::Open(edge)) = instance.piece(at) else {
         return 0;
     };
-    if edge.slot == slot {
-        instance.group(kept - 1)
-    } else {
-        0
+    if edge.slot != slot {
+        return 0;
     }
+    if is_plain(model, edge) {
+        return 0;
+    }
+    instance.group(kept - 1)
 }
 
 /// What was kept of the innermost of so many elements; nothing where there is none.
@@ -124,12 +126,12 @@ fn end(model: &Model, instance: &mut Instance, next: u64, edge: Edge, at: usize,
     requires room { pass.sum < 15000000000000000000 }
     requires places { pass.kept + pass.ended + (at + 1) ≤ length instance.old.region.pieces }
     ensures region { instance.new.region ≡ instance.old.region }
-    ensures known { (before : BeforeOf) → next ≡ next_slot before → (s : Stage) → Knows instance.old (at + 1) pass.kept pass.ended pass.sum s → AreBeside (drop (at + 1) instance.old.region.pieces) s.beside
+    ensures known { (before : BeforeOf) → next ≡ next_slot before → (s : Stage) → Knows instance.old (at + 1) pass.kept pass.ended pass.sum s → AreBeside (types_of model.now) (drop (at + 1) instance.old.region.pieces) s.beside
         → Knows instance.new at result.kept result.ended result.sum (piece_step (types_of model.now) before (Ends (edge_of edge)) (drop (at + 1) instance.old.region.pieces) s) }
     ensures most { result.sum ≤ pass.sum + 50000 }
 {
     let count = instance.count();
-    let following = octets_following(instance, at + 1, pass.kept, edge.slot);
+    let following = octets_following(model, instance, at + 1, pass.kept, edge.slot);
     let place = count - 1 - pass.ended;
     instance.set_len(place, pass.sum);
     instance.set_group(place, following);
@@ -175,7 +177,7 @@ fn filled_size(model: &Model, before: Before, size: u64) -> u64
     head_size(leaf_head(model, before), size) + size
 }
 
-/// Where an element begins: its numbers are kept.
+/// Where an element begins: its numbers are kept, where it is not plain.
 fn begin(
     model: &Model,
     instance: &mut Instance,
@@ -196,14 +198,22 @@ fn begin(
     let inner = last_ended(instance, pass.ended);
     let len = pass.sum - inner.behind;
     let sizes = begin_sizes(model, next, edge, len, inner.following);
-    let group = sizes.head + len + inner.following;
-    instance.set_len(pass.kept, len);
-    instance.set_group(pass.kept, group);
     let between = slots_size(model, edge.parent, next, edge.slot);
+    let sum = pass.sum + between + sizes.list + sizes.head;
+    let ended = pass.ended.saturating_sub(1);
+    if is_plain(model, edge) {
+        return Pass {
+            sum,
+            kept: pass.kept,
+            ended,
+        };
+    }
+    instance.set_len(pass.kept, len);
+    instance.set_group(pass.kept, sizes.head + len + inner.following);
     Pass {
-        sum: pass.sum + between + sizes.list + sizes.head,
+        sum,
         kept: pass.kept + 1,
-        ended: pass.ended.saturating_sub(1),
+        ended,
     }
 }
 
@@ -214,8 +224,37 @@ struct Reached {
     pass: Pass,
 }
 
-/// An element of a simple type in front of the pieces that were measured.
+/// A plain element in front of the pieces that were measured.
 #[inline(always)]
+fn measure_plain(
+    model: &Model,
+    instance: &Instance,
+    element: SimpleElement,
+    at: usize,
+    pass: Pass,
+) -> Pass
+    requires place { at + 3 ≤ length instance.now.region.pieces }
+    requires simple { IsSimpleAt (types_of model.now) instance.now.region.pieces at (edge_of element.edge) element.size }
+    requires plain { plain_edge (types_of model.now) (edge_of element.edge) ≡ true }
+    requires room { pass.sum < 14500000000000000000 }
+    requires known { Knows instance.now (at + 3) pass.kept pass.ended pass.sum (stage (types_of model.now) (before_place instance.now.region.pieces (at + 3)) (drop (at + 3) instance.now.region.pieces)) }
+    requires few { element.size ≤ 1000000000000000 }
+    ensures known { Knows instance.now at result.kept result.ended result.sum (stage (types_of model.now) (before_place instance.now.region.pieces at) (drop at instance.now.region.pieces)) }
+    ensures most { result.sum ≤ pass.sum + 50000 + element.size }
+{
+    let edge = element.edge;
+    let next = next_at(instance, at);
+    let sizes = begin_sizes(model, next, edge, element.size, 0);
+    let between = slots_size(model, edge.parent, next, edge.slot);
+    Pass {
+        sum: pass.sum + element.size + between + sizes.list + sizes.head,
+        kept: pass.kept,
+        ended: pass.ended,
+    }
+}
+
+/// An element of a simple type in front of the pieces that were measured, which is an item of a list.
+#[inline(never)]
 fn measure_simple(
     model: &Model,
     instance: &mut Instance,
@@ -225,6 +264,7 @@ fn measure_simple(
 ) -> Pass
     requires place { at + 3 ≤ length instance.old.region.pieces }
     requires simple { IsSimpleAt (types_of model.now) instance.old.region.pieces at (edge_of element.edge) element.size }
+    requires paired { plain_edge (types_of model.now) (edge_of element.edge) ≡ false }
     requires room { pass.sum < 14500000000000000000 }
     requires known { Knows instance.old (at + 3) pass.kept pass.ended pass.sum (stage (types_of model.now) (before_place instance.old.region.pieces (at + 3)) (drop (at + 3) instance.old.region.pieces)) }
     requires few { element.size ≤ 1000000000000000 }
@@ -235,7 +275,7 @@ fn measure_simple(
     let _count = instance.count();
     let edge = element.edge;
     let next = next_at(instance, at);
-    let following = octets_following(instance, at + 3, pass.kept, edge.slot);
+    let following = octets_following(model, instance, at + 3, pass.kept, edge.slot);
     let sizes = begin_sizes(model, next, edge, element.size, following);
     instance.set_len(pass.kept, element.size);
     instance.set_group(pass.kept, sizes.head + element.size + following);
@@ -273,6 +313,12 @@ fn measure_ended(
             pass: end(model, instance, next, edge, at, pass),
         };
     };
+    if is_plain(model, element.edge) {
+        return Reached {
+            at: at - 2,
+            pass: measure_plain(model, instance, element, at - 2, pass),
+        };
+    }
     Reached {
         at: at - 2,
         pass: measure_simple(model, instance, element, at - 2, pass),

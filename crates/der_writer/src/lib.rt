@@ -1,9 +1,10 @@
 //! The DER of an instance that is kept as pieces: X.690.
 //!
 //! A length stands before its contents, so an instance is gone over twice. [`measure`] goes from the last piece to the
-//! first, and keeps beside each beginning of an element how many octets the element holds, and how many the list that
-//! begins with it. [`write_der`] then goes from the first piece to the last, and pushes the octets of one after the other.
-//! Neither takes memory, however deep the instance is.
+//! first, and keeps of each element how many octets it holds, and how many the list that begins with it: the numbers of
+//! one element after those of the other, and none of an element of one leaf in a slot that comes once. [`write_der`] then
+//! goes from the first piece to the last, takes the numbers from the last back, and pushes the octets of one piece after
+//! the other. Neither takes memory, however deep the instance is.
 //!
 //! A `Document` whose `Note` has two `Id`, `ab` and `c`, which are a list since there may be more than one, is
 //!

@@ -5,10 +5,12 @@ ghost use Rattle.data_types.specs.Value.{Begins, Holds, Ends};
 ghost use Rattle.inst_pool.specs.Pieces.{edge_of};
 ghost use Rattle.message_model.specs.Tables.{types_of};
 ghost use Rattle.der_model.specs.LeafContents.{leaf_contents};
-ghost use Rattle.der_writer.specs.inner.PieceOctets.{first_leaf, sequence_slots};
+ghost use Rattle.der_writer.specs.Measured.{holds_leaf};
+ghost use Rattle.der_writer.specs.inner.PieceOctets.{first_leaf, leaf_next, plain_edge, sequence_slots};
 ghost use Rattle.der_writer.specs.inner.Measuring.{IsSimpleAt, IsSizeOf};
 
 use crate::contents::leaf_size;
+use der_model::comes_once;
 use inst_pool::{Edge, Instance, Piece};
 use message_model::{Form, Model};
 
@@ -21,7 +23,9 @@ pub(crate) struct SimpleElement {
 }
 
 /// Whether an element of the type holds one leaf, under the tag of the element.
-fn is_simple(model: &Model, number: u32) -> bool
+#[inline(always)]
+pub(crate) fn is_simple(model: &Model, number: u32) -> bool
+    ensures is { result ≡ holds_leaf (types_of model.now number) }
     ensures leaf { result ≡ true → (leaf : Leaf) → first_leaf (types_of model.now number) leaf ≡ leaf_contents leaf }
     ensures slots { result ≡ true → sequence_slots (types_of model.now number) ≡ [] }
 {
@@ -33,6 +37,32 @@ fn is_simple(model: &Model, number: u32) -> bool
         Some(Form::Envelope) => true,
         None => false,
     }
+}
+
+/// Whether an element is plain: it holds one leaf, and its slot comes once. Then its length is that of its leaf, no list
+/// begins with it, and no numbers of it are kept.
+#[inline(always)]
+pub(crate) fn is_plain(model: &Model, edge: Edge) -> bool
+    ensures { result ≡ plain_edge (types_of model.now) (edge_of edge) }
+{
+    let Some(slot) = model.slot(edge.parent, edge.slot) else {
+        return false;
+    };
+    if !comes_once(slot.max) {
+        return false;
+    }
+    is_simple(model, edge.target)
+}
+
+/// How many contents octets the leaf has that stands at a place.
+#[inline(always)]
+pub(crate) fn leaf_size_at(instance: &Instance, at: usize) -> u64
+    ensures { result ≡ leaf_next (slice_get instance.now.region.pieces at) }
+{
+    let Some(Piece::Leaf(leaf)) = instance.piece(at) else {
+        return 0;
+    };
+    leaf_size(&leaf)
 }
 
 /// The element that begins at a place.

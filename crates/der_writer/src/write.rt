@@ -1,5 +1,5 @@
 //! The DER of an instance, pushed piece by piece: X.690 §8.1, §10.1.
-ghost use Rattle.std.specs.Prelude.{◌≡◌, ◌++◌, ◌<◌, ◌≤◌, ◌-◌, IsTrue, true, false, [], drop, length, slice_get, slice_index, if◌then◌else◌};
+ghost use Rattle.std.specs.Prelude.{◌≡◌, ◌+◌, ◌++◌, ◌<◌, ◌≤◌, ◌-◌, IsTrue, true, false, [], drop, length, slice_get, slice_index, if◌then◌else◌};
 ghost use Rattle.outside.specs.Pushes.{Pushes, as_push};
 ghost use Rattle.outside.specs.Gathering.{Gathers};
 ghost use Rattle.data_types.specs.Value.{Value, Begins};
@@ -11,7 +11,7 @@ ghost use Rattle.message_model.specs.Tables.{types_of, pieces_of};
 ghost use Rattle.der_model.specs.DerMessage.{der_message};
 ghost use Rattle.der_model.specs.Der.{der_of};
 ghost use Rattle.der_writer.specs.Measured.{IsMeasured};
-ghost use Rattle.der_writer.specs.inner.PieceOctets.{Before, Begun, begin_octets, document_edge, empty_slots, goes_on, head, item_head, list_head, next_slot, own_slot, piece_octets, pieces_octets, sequence_slots, slots_behind};
+ghost use Rattle.der_writer.specs.inner.PieceOctets.{Before, Begun, begin_octets, document_edge, empty_slots, goes_on, head, item_head, left_behind, len_kept, list_head, next_slot, own_slot, piece_octets, pieces_octets, sequence_slots, slots_behind};
 ghost use Rattle.der_writer.specs.inner.Measuring.{before_place, left_there, octets_at, pairs_kept};
 
 use crate::contents::push_leaf;
@@ -19,76 +19,95 @@ use crate::head::Head;
 use crate::heads::{push_context, push_head};
 use crate::pieces::{first_list, item_head, leaf_head};
 use crate::places::{before_at, next_at, start};
+use crate::simple::{is_plain, leaf_size_at};
 use crate::slots::{behind_size, is_sequence, push_behind, push_slots};
 use der_model::{comes_once, is_constructed};
 use inst_pool::{Edge, Instance, Piece};
 use message_model::Model;
 use outside::{Buffer, Sink, SinkError, WriteError};
 
-/// Pushes the heads with which an item of a list begins, whose numbers are kept at a place.
+/// Pushes the heads with which an item of a list begins that has so many contents octets; so many octets of the list begin
+/// with it.
 #[inline(never)]
 fn push_item<O: Sink>(
     model: &Model,
-    instance: &Instance,
     next: u64,
     slot: u32,
     target: u32,
-    place: usize,
+    group: u64,
+    size: u64,
     sink: &mut O,
 ) -> Result<(), SinkError>
-    requires place { place < length instance.now.region.pieces }
-    requires slot { slot < 16384 }
-    ensures { (before : Before) → next ≡ next_slot before → Pushes O.held O.faults O.room sink.old sink.new result ((if goes_on before slot then [] else head true (context slot) (slice_index instance.now.groups place)) ++ item_head (types_of model.now target) (slice_index instance.now.lens place)) }
+    requires { slot < 16384 }
+    ensures { (before : Before) → next ≡ next_slot before → Pushes O.held O.faults O.room sink.old sink.new result ((if goes_on before slot then [] else head true (context slot) group) ++ item_head (types_of model.now target) size) }
 {
-    if let Err(error) = push_head(first_list(next, slot), instance.group(place), sink) {
+    if let Err(error) = push_head(first_list(next, slot), group, sink) {
         return Err(error);
     }
-    push_head(item_head(model, target), instance.len(place), sink)
+    push_head(item_head(model, target), size, sink)
 }
 
-/// Pushes the heads with which an element begins, whose numbers are kept at a place.
+/// How many contents octets the element has that begins at a place: a plain one as many as its leaf.
+#[inline(always)]
+fn begun_size(model: &Model, instance: &Instance, edge: Edge, at: usize, left: usize) -> u64
+    requires at { at < length instance.now.region.pieces }
+    requires left { left ≤ length instance.now.region.pieces }
+    ensures { result ≡ len_kept (types_of model.now) (Begins (edge_of edge)) (slice_get instance.now.region.pieces (at + 1)) instance.now.lens left }
+{
+    let _count = instance.count();
+    if is_plain(model, edge) {
+        return leaf_size_at(instance, at + 1);
+    }
+    instance.len(last_place(left))
+}
+
+/// Pushes the heads with which an element begins that has so many contents octets, where so many pairs of numbers are left.
 #[inline(always)]
 fn push_opening<O: Sink>(
     model: &Model,
     instance: &Instance,
     next: u64,
     edge: Edge,
-    place: usize,
+    size: u64,
+    left: usize,
     sink: &mut O,
 ) -> Result<(), SinkError>
-    requires { place < length instance.now.region.pieces }
-    ensures { (before : Before) → next ≡ next_slot before → Pushes O.held O.faults O.room sink.old sink.new result (list_head (own_slot (types_of model.now) (edge_of edge)) before edge.slot (slice_index instance.now.groups place) ++ begin_octets (types_of model.now) (edge_of edge) (slice_index instance.now.lens place)) }
+    requires some { 0 < length instance.now.region.pieces }
+    requires left { left ≤ length instance.now.region.pieces }
+    ensures { (before : Before) → next ≡ next_slot before → Pushes O.held O.faults O.room sink.old sink.new result (list_head (own_slot (types_of model.now) (edge_of edge)) before edge.slot (slice_index instance.now.groups (left - 1)) ++ begin_octets (types_of model.now) (edge_of edge) size) }
 {
     let _count = model.type_count();
     let Some(slot) = model.slot(edge.parent, edge.slot) else {
         return Ok(());
     };
     if !comes_once(slot.max) {
-        return push_item(model, instance, next, edge.slot, edge.target, place, sink);
+        let group = instance.group(last_place(left));
+        return push_item(model, next, edge.slot, edge.target, group, size, sink);
     }
     let constructed = is_constructed(model, edge.target);
-    push_context(constructed, edge.slot, instance.len(place), sink)
+    push_context(constructed, edge.slot, size, sink)
 }
 
-/// Pushes what is written where an element begins, whose numbers are kept at a place.
+/// Pushes what is written where an element begins, where so many pairs of numbers are left.
 #[inline(always)]
 fn push_begin<O: Sink>(
     model: &Model,
     instance: &Instance,
     edge: Edge,
     at: usize,
-    place: usize,
+    left: usize,
     sink: &mut O,
 ) -> Result<(), SinkError>
     requires at { at < length instance.now.region.pieces }
-    requires place { place < length instance.now.region.pieces }
-    ensures { Pushes O.held O.faults O.room sink.old sink.new result (piece_octets (types_of model.now) (before_place instance.now.region.pieces at) (Begins (edge_of edge)) (slice_index instance.now.lens place) (slice_index instance.now.groups place)) }
+    requires left { left ≤ length instance.now.region.pieces }
+    ensures { Pushes O.held O.faults O.room sink.old sink.new result (piece_octets (types_of model.now) (before_place instance.now.region.pieces at) (Begins (edge_of edge)) (len_kept (types_of model.now) (Begins (edge_of edge)) (slice_get instance.now.region.pieces (at + 1)) instance.now.lens left) (slice_index instance.now.groups (left - 1))) }
 {
     let next = next_at(instance, at);
     if let Err(error) = push_slots(model, edge.parent, next, edge.slot, sink) {
         return Err(error);
     }
-    push_opening(model, instance, next, edge, place, sink)
+    let size = begun_size(model, instance, edge, at, left);
+    push_opening(model, instance, next, edge, size, left, sink)
 }
 
 /// Pushes what is written where an element ends. Where its type has no slots, what stands before is not asked for.
@@ -119,16 +138,28 @@ fn last_place(left: usize) -> usize
 
 /// How many pairs of numbers are left behind the piece at a place, of so many before it.
 #[inline(always)]
-fn left_after(instance: &Instance, at: usize, left: usize) -> usize
-    ensures left { result ≡ left_there (slice_get instance.now.region.pieces at) left }
+fn left_after(model: &Model, instance: &Instance, at: usize, left: usize) -> usize
+    ensures left { result ≡ left_there (types_of model.now) (slice_get instance.now.region.pieces at) left }
     ensures few { result ≤ left }
 {
     match instance.piece(at) {
-        Some(Piece::Open(_)) => last_place(left),
+        Some(Piece::Open(edge)) => left_begun(model, edge, left),
         Some(Piece::Leaf(_)) => left,
         Some(Piece::Close(_)) => left,
         None => left,
     }
+}
+
+/// The same where an element begins: a plain one has none.
+#[inline(always)]
+fn left_begun(model: &Model, edge: Edge, left: usize) -> usize
+    ensures left { result ≡ left_behind (types_of model.now) (Begins (edge_of edge)) left }
+    ensures few { result ≤ left }
+{
+    if is_plain(model, edge) {
+        return left;
+    }
+    last_place(left)
 }
 
 /// Pushes what is written at the piece at a place, where so many pairs of numbers are left.
@@ -145,7 +176,7 @@ fn push_at<O: Sink>(
     ensures { Pushes O.held O.faults O.room sink.old sink.new result (octets_at (types_of model.now) instance.now at left) }
 {
     match instance.piece(at) {
-        Some(Piece::Open(edge)) => { push_begin(model, instance, edge, at, last_place(left), sink) }
+        Some(Piece::Open(edge)) => { push_begin(model, instance, edge, at, left, sink) }
         Some(Piece::Leaf(leaf)) => {
             push_leaf(leaf_head(model, before_at(instance, at)), &leaf, sink)
         }
@@ -233,7 +264,7 @@ fn push_pieces<O: Sink>(
         if let Err(error) = gather_at(model, instance, at, left, &mut buffer, sink) {
             return Err(error);
         }
-        left = left_after(instance, at, left);
+        left = left_after(model, instance, at, left);
     }
     push_rest(model, next_at(instance, count), buffer, sink)
 }

@@ -1,13 +1,13 @@
 -- What the pass that fills in the lengths keeps of elements that end, while their beginnings are still to come.
-use Rattle.std.specs.Prelude.{◌≡◌, ℕ, zero, suc, ◌+◌, ◌-◌, ◌≤◌, ◌==◌, List, [], ◌∷◌, length, Option, Some, None, slice_get, slice_index, if◌then◌else◌}
+use Rattle.std.specs.Prelude.{◌≡◌, ℕ, zero, suc, ◌+◌, ◌-◌, ◌≤◌, ◌==◌, true, false, List, [], ◌∷◌, length, Option, Some, None, slice_get, slice_index, if◌then◌else◌}
 use Rattle.data_types.specs.Leaf.{Leaf, octet_count}
 use Rattle.data_types.specs.Value.{Edge, Piece, Begins, Holds, Ends}
 use Rattle.facets.specs.declared.simple.Simple.{Simple}
 use Rattle.inst_pool.specs.Pieces.{Held}
 use Rattle.reference_check.specs.Forms.{Graph}
 use Rattle.der_model.specs.LeafContents.{leaf_contents}
-use Rattle.der_writer.specs.Measured.{Beside, Free, Counts, AreKept}
-use Rattle.der_writer.specs.inner.PieceOctets.{Before, Begun, Filled, before_of, document_edge, leaf_octets, left_behind, piece_octets, slots_behind}
+use Rattle.der_writer.specs.Measured.{Beside, Free, Sized, Counts, AreKept}
+use Rattle.der_writer.specs.inner.PieceOctets.{Before, Begun, Filled, before_of, document_edge, leaf_next, leaf_octets, left_behind, len_kept, piece_octets, plain_edge, slots_behind}
 use Rattle.der_writer.specs.inner.Passes.{Frame, Stage}
 
 abbrev pub behind_piece : Option Piece → Before
@@ -23,14 +23,19 @@ abbrev pub octets_there : Graph ℕ Simple → Before → Option Piece → (len 
 octets_there g before None len group = []
 octets_there g before (Some piece) len group = piece_octets g before piece len group
 
+abbrev pub len_there : Graph ℕ Simple → Option Piece → Option Piece → List ℕ → ℕ → ℕ
+len_there g None next lens left = 0
+len_there g (Some piece) next lens left = len_kept g piece next lens left
+
 -- what is written at the piece at a place, where so many pairs of numbers are left
 abbrev pub octets_at : Graph ℕ Simple → Held → ℕ → ℕ → List ℕ
-octets_at g held at left = octets_there g (before_place held.region.pieces at) (slice_get held.region.pieces at) (slice_index held.lens (left - 1)) (slice_index held.groups (left - 1))
+octets_at g held at left =
+    octets_there g (before_place held.region.pieces at) (slice_get held.region.pieces at) (len_there g (slice_get held.region.pieces at) (slice_get held.region.pieces (at + 1)) held.lens left) (slice_index held.groups (left - 1))
 
 -- how many pairs are left behind the piece at a place
-abbrev pub left_there : Option Piece → ℕ → ℕ
-left_there None left = left
-left_there (Some piece) left = left_behind piece left
+abbrev pub left_there : Graph ℕ Simple → Option Piece → ℕ → ℕ
+left_there g None left = left
+left_there g (Some piece) left = left_behind g piece left
 
 -- how many pairs there are, where the lengths have been filled in
 abbrev pub pairs_kept : Held → ℕ
@@ -45,15 +50,15 @@ abbrev pub IsSizeAt : Option Piece → ℕ → Type 0
 IsSizeAt None size = Unit {0}
 IsSizeAt (Some piece) size = IsSizeOf piece size
 
--- how many octets of slot k stand at a piece, where it begins an element of the slot
-abbrev pub following_piece : Option Piece → ℕ → ℕ → ℕ
-following_piece (Some (Begins edge)) group k = if edge.slot == k then group else 0
-following_piece piece group k = 0
+-- how many octets of slot k stand at a piece, where it begins an element of the slot that has a pair of numbers
+abbrev pub following_piece : Graph ℕ Simple → Option Piece → ℕ → ℕ → ℕ
+following_piece g (Some (Begins edge)) group k = if edge.slot == k then (if plain_edge g edge then 0 else group) else 0
+following_piece g piece group k = 0
 
--- the same at a place behind which nothing is to be read any more, where so many pairs are kept
-abbrev pub following_at : Held → ℕ → ℕ → ℕ → ℕ
-following_at held at zero k = 0
-following_at held at (suc kept) k = following_piece (slice_get held.region.pieces at) (slice_index held.groups kept) k
+-- the same at a place in front of which the pass stands, where so many pairs are kept
+abbrev pub following_at : Graph ℕ Simple → Held → ℕ → ℕ → ℕ → ℕ
+following_at g held at zero k = 0
+following_at g held at (suc kept) k = following_piece g (slice_get held.region.pieces at) (slice_index held.groups kept) k
 
 -- The elements whose beginnings are to come, so many, the innermost first: what is known of each stands at a place, of the outermost at that of
 -- the last piece, and of each that it holds at the place before.
@@ -77,13 +82,23 @@ AreFramesWithin sum [] = Unit {0}
 AreFramesWithin sum (frame ∷ frames) = (frame.behind ≤ sum) × (frame.following ≤ frame.behind) × AreFramesWithin sum frames
 
 -- to each beginning of an element belong numbers, and to no other piece
-abbrev pub AreBeside : List Piece → List Beside → Type 0
-AreBeside [] bs = Unit {0}
-AreBeside (p ∷ ps) [] = ⊥
-AreBeside (Begins e ∷ ps) (Free ∷ bs) = ⊥
-AreBeside (Begins e ∷ ps) (Counts len group ∷ bs) = AreBeside ps bs
-AreBeside (p ∷ ps) (Free ∷ bs) = AreBeside ps bs
-AreBeside (p ∷ ps) (Counts len group ∷ bs) = ⊥
+abbrev pub AreBeside : Graph ℕ Simple → List Piece → List Beside → Type 0
+AreBeside g [] bs = Unit {0}
+AreBeside g (p ∷ ps) [] = ⊥
+AreBeside g (Begins e ∷ ps) (Free ∷ bs) = ⊥
+AreBeside g (Begins e ∷ ps) (Sized len ∷ bs) = (plain_edge g e ≡ true) × AreBeside g ps bs
+AreBeside g (Begins e ∷ ps) (Counts len group ∷ bs) = (plain_edge g e ≡ false) × AreBeside g ps bs
+AreBeside g (p ∷ ps) (Free ∷ bs) = AreBeside g ps bs
+AreBeside g (p ∷ ps) (Sized len ∷ bs) = ⊥
+AreBeside g (p ∷ ps) (Counts len group ∷ bs) = ⊥
+
+-- the leaf of each plain element tells its length
+abbrev pub AreSized : List Piece → List Beside → Type 0
+AreSized [] bs = Unit {0}
+AreSized (p ∷ ps) [] = Unit {0}
+AreSized (p ∷ ps) (Sized len ∷ bs) = (leaf_next (slice_get ps 0) ≡ len) × AreSized ps bs
+AreSized (p ∷ ps) (Free ∷ bs) = AreSized ps bs
+AreSized (p ∷ ps) (Counts len group ∷ bs) = AreSized ps bs
 
 -- An element that begins at a place has three pieces: no slots stand behind its leaf, which has so many octets.
 pub record IsSimpleAt (g : Graph ℕ Simple) (pieces : List Piece) (at : ℕ) (edge : Edge) (size : ℕ) : Type 0 where

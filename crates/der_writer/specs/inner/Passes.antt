@@ -3,8 +3,8 @@ use Rattle.std.specs.Prelude.{ℕ, ◌+◌, ◌-◌, ◌==◌, List, [], ◌∷�
 use Rattle.data_types.specs.Value.{Piece, Begins, Holds, Ends}
 use Rattle.facets.specs.declared.simple.Simple.{Simple}
 use Rattle.reference_check.specs.Forms.{Graph}
-use Rattle.der_writer.specs.Measured.{Beside, Free, Counts}
-use Rattle.der_writer.specs.inner.PieceOctets.{Before, before_of, piece_octets, begin_octets, slots_behind}
+use Rattle.der_writer.specs.Measured.{Beside, Free, Counts, counts_of}
+use Rattle.der_writer.specs.inner.PieceOctets.{Before, before_of, plain_edge, piece_octets, begin_octets, slots_behind}
 
 -- an element whose beginning is still to come: how many octets stand behind its end, and how many of them are of its slot, where another
 -- element of the slot follows at once
@@ -34,7 +34,7 @@ piece_step g before (Begins edge) pieces r =
     let frame = innermost_frame r.frames in
     let len = r.sum - frame.behind in
     let group = length (begin_octets g edge len) + len + frame.following in
-    record { sum = length (piece_octets g before (Begins edge) len group) + r.sum; frames = drop 1 r.frames; beside = Counts len group ∷ r.beside }
+    record { sum = length (piece_octets g before (Begins edge) len group) + r.sum; frames = drop 1 r.frames; beside = counts_of (plain_edge g edge) len group ∷ r.beside }
 piece_step g before (Holds leaf) pieces r = record { sum = length (piece_octets g before (Holds leaf) 0 0) + r.sum; frames = r.frames; beside = Free ∷ r.beside }
 piece_step g before (Ends edge) pieces r =
     let frame : Frame = record { behind = r.sum; following = following pieces r.beside edge.slot } in

@@ -8,7 +8,7 @@ use Rattle.reference_check.specs.Forms.{Graph, Form, Slot, form_slots}
 use Rattle.reference_check.specs.Forms as form
 use Rattle.der_model.specs.LeafContents.{leaf_contents}
 use Rattle.der_model.specs.Structures.{is_single, is_constructed, universal_tag}
-use Rattle.der_writer.specs.Measured.{Beside, Free, Counts}
+use Rattle.der_writer.specs.Measured.{Beside, Free, Sized, Counts, is_plain}
 
 -- what stands before a piece: an element that has begun, a leaf, an element that has ended
 pub data Before : Type 0 where
@@ -101,24 +101,40 @@ piece_octets g before (Begins edge) len group = octets_before g before edge grou
 piece_octets g before (Holds leaf) len group = leaf_octets g before leaf
 piece_octets g before (Ends edge) len group = slots_behind g edge.target before
 
--- how many pairs of numbers are left behind a piece, of so many before it
-abbrev pub left_behind : Piece → ℕ → ℕ
-left_behind (Begins edge) left = left - 1
-left_behind piece left = left
+-- an element of one leaf in a slot that comes once
+abbrev pub plain_edge : Graph ℕ Simple → Edge → Bool
+plain_edge g edge = is_plain (own_slot g edge) (g edge.target)
 
--- what is written at pieces and at the end of the whole, by the numbers that are kept, of which so many pairs are left: the last is that of
--- the first element that begins
+-- how many contents octets a leaf has that is the next piece
+abbrev pub leaf_next : Option Piece → ℕ
+leaf_next (Some (Holds leaf)) = length (leaf_contents leaf)
+leaf_next next = 0
+
+-- how many contents octets an element has that begins with a piece, by the next one or by the pairs of numbers that are left
+abbrev pub len_kept : Graph ℕ Simple → Piece → Option Piece → List ℕ → ℕ → ℕ
+len_kept g (Begins edge) next lens left = if plain_edge g edge then leaf_next next else slice_index lens (left - 1)
+len_kept g piece next lens left = 0
+
+-- how many pairs are left behind a piece, of so many before it
+abbrev pub left_behind : Graph ℕ Simple → Piece → ℕ → ℕ
+left_behind g (Begins edge) left = if plain_edge g edge then left else left - 1
+left_behind g piece left = left
+
+-- what is written at pieces and at the end of the whole, by the pairs of numbers that are kept, of which so many are left: the last is that
+-- of the first element that has one
 abbrev pub pieces_octets : Graph ℕ Simple → Before → List Piece → List ℕ → List ℕ → ℕ → List ℕ
 pieces_octets g before [] lens groups left = slots_behind g 0 before
 pieces_octets g before (piece ∷ pieces) lens groups left =
-    piece_octets g before piece (slice_index lens (left - 1)) (slice_index groups (left - 1)) ++ pieces_octets g (before_of piece) pieces lens groups (left_behind piece left)
+    piece_octets g before piece (len_kept g piece (slice_get pieces 0) lens left) (slice_index groups (left - 1)) ++ pieces_octets g (before_of piece) pieces lens groups (left_behind g piece left)
 
 abbrev pub len_of : Beside → ℕ
 len_of Free = 0
+len_of (Sized len) = len
 len_of (Counts len group) = len
 
 abbrev pub group_of : Beside → ℕ
 group_of Free = 0
+group_of (Sized len) = 0
 group_of (Counts len group) = group
 
 -- the same, with 0 where any number may stand

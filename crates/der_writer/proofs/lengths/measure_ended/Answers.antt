@@ -46,6 +46,30 @@ measure_simple-requires-clause-few c =
     let most = c.count-count.ensures.bounded.byte_limit in
     omega (arith, few, bytes, all, most)
 
+pub measure_plain-requires-clause-place : goal.measure_plain-requires-clause-place
+measure_plain-requires-clause-place c =
+    let far = c.in-Some.ensures.place in
+    let place = c.requires.place in
+    omega (arith, far, place)
+
+pub measure_plain-requires-clause-known : goal.measure_plain-requires-clause-known
+measure_plain-requires-clause-known c =
+    let ps = c.args.instance.now.region.pieces in
+    let g = types_of c.args.model.now in
+    let far = c.in-Some.ensures.place in
+    let third : c.args.at + 1 ≡ c.args.at - 2 + 3 = omega (arith, far) in
+    subst (λ n. Knows c.args.instance.now n c.args.pass.kept c.args.pass.ended c.args.pass.sum (stage g (before_place ps n) (drop n ps))) third c.requires.known
+
+pub measure_plain-requires-clause-few : goal.measure_plain-requires-clause-few
+measure_plain-requires-clause-few c =
+    let ps = c.args.instance.now.region.pieces in
+    let is = c.in-Some.ensures.simple in
+    let few = is.few in
+    let bytes = bytes_at ps (c.args.at - 2 + 1) (Holds is.leaf) is.holds in
+    let all = c.count-count.ensures.bounded.bytes in
+    let most = c.count-count.ensures.bounded.byte_limit in
+    omega (arith, few, bytes, all, most)
+
 pub returns-clause-most : goal.returns-clause-most
 returns-clause-most c =
     let ps = c.args.instance.now.region.pieces in
@@ -54,4 +78,14 @@ returns-clause-most c =
     let bytes = simple_bytes (types_of c.args.model.now) ps (c.args.at - 2) (edge_of c.in-Some.element.edge) c.in-Some.element.size c.in-Some.ensures.simple in
     let behind = ap (λ n. bytes_of (drop n ps)) third in
     let most = c.measure_simple.ensures.most in
+    omega (arith, far, bytes, behind, most)
+
+pub returns-then-is_plain-clause-most : goal.returns-then-is_plain-clause-most
+returns-then-is_plain-clause-most c =
+    let ps = c.args.instance.now.region.pieces in
+    let far = c.in-Some.ensures.place in
+    let third : c.args.at - 2 + 3 ≡ c.args.at + 1 = omega (arith, far) in
+    let bytes = simple_bytes (types_of c.args.model.now) ps (c.args.at - 2) (edge_of c.in-Some.element.edge) c.in-Some.element.size c.in-Some.ensures.simple in
+    let behind = ap (λ n. bytes_of (drop n ps)) third in
+    let most = c.measure_plain.ensures.most in
     omega (arith, far, bytes, behind, most)

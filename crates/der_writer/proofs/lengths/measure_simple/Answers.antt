@@ -45,8 +45,8 @@ returns-clause-known c =
     let size = c.args.element.size in
     let head = c.begin_sizes-sizes.result.head in
     let told = c.octets_following-following.result in
-    let follow : told ≡ following_at old (c.args.at + 3) c.args.pass.kept edge.slot = c.octets_following-following.ensures in
-    let group = head + size + following_at old (c.args.at + 3) c.args.pass.kept edge.slot in
+    let follow : told ≡ following_at types old (c.args.at + 3) c.args.pass.kept edge.slot = c.octets_following-following.ensures in
+    let group = head + size + following_at types old (c.args.at + 3) c.args.pass.kept edge.slot in
     let group_is : head + size + told ≡ group = ap (λ z. head + size + z) follow in
     let between = λ (z : ℕ). empty_slots z (take (edge.slot - z) (drop z (sequence_slots (types edge.parent)))) in
     let between_is : c.slots_size-between.result ≡ length (slots_between types edge.parent before edge.slot) = c.slots_size-between.ensures.size ∙ ap (λ z. length (between z)) c.next_at-next.ensures in
@@ -54,5 +54,5 @@ returns-clause-known c =
     let split = length-append (slots_between types edge.parent before edge.slot) (list_head (own_slot types edge) before edge.slot group) in
     let same = sets_same old c.set_len.new.self c.set_group.new.self c.args.pass.kept size (head + size + told) (omega (arith, room, low, count.count, count.lens)) (omega (arith, room, low, count.count, count.groups))
     c.set_len.ensures.lens c.set_len.ensures.rest c.set_group.ensures.groups c.set_group.ensures.rest in
-    knows_simple types old c.set_group.new.self c.args.at c.args.pass.kept c.args.pass.ended c.args.pass.sum _ edge size c.slots_size-between.result c.begin_sizes-sizes.result.list head c.requires.simple c.requires.known same.0 same.1 (same.2 ∙ group_is)
-    c.begin_sizes-sizes.ensures.head (omega (arith, between_is, list_is, split)) refl
+    knows_simple types old c.args.at c.args.pass.kept c.args.pass.ended c.args.pass.sum _ edge size c.slots_size-between.result c.begin_sizes-sizes.result.list head c.requires.simple c.requires.known c.set_group.new.self c.requires.paired
+    same.0 same.1 (same.2 ∙ group_is) c.begin_sizes-sizes.ensures.head (omega (arith, between_is, list_is, split)) refl
