@@ -1,0 +1,58 @@
+//! The contents that do not fit in nodes.
+ghost use Rattle.std.specs.Prelude.{◌≡◌, ℕ, ◌<◌, ◌≤◌, ◌^◌, ◌++◌, [], ◌∷◌, vec_len, vec_capacity};
+ghost use Rattle.inst_pool.specs.inner.Others.{AreBetween, other_at, HasOther};
+
+use crate::content::Content;
+
+/// So many contents have places of 29 bits.
+const MOST_HINTS: usize = 1 << 29;
+
+/// A content, with the place of its piece.
+#[derive(Clone, Copy, Debug)]
+pub(crate) struct Other {
+    pub(crate) at: usize,
+    pub(crate) content: Content,
+}
+
+/// Appends the content of the piece at that place, for which there is room, and tells where it stands, if 29 bits can say
+/// that: it is a hint.
+pub(crate) fn add_other(others: &mut Vec<Other>, at: usize, content: Content) -> u32
+    requires { vec_len others.old < vec_capacity others.old }
+    ensures items { others.new.items ≡ others.old.items ++ record { at = at; content = content } ∷ [] }
+    ensures room { vec_capacity others.new ≡ vec_capacity others.old }
+    ensures fits { result < 2 ^ 29 }
+{
+    let hint = others.len() % MOST_HINTS;
+    others.push_reserved(Other { at, content });
+    hint as u32
+}
+
+/// The content of the piece at that place. It is looked for where the hint says, and then among all.
+#[inline(never)]
+pub(crate) fn other_of(others: &[Other], at: usize, hint: usize) -> Content
+    requires order { (high : ℕ) × AreBetween 0 high others.now }
+    requires there { HasOther others.now at }
+    ensures { result ≡ other_at others.now at }
+{
+    if hint < others.len() {
+        let other = others[hint];
+        if other.at == at {
+            return other.content;
+        }
+    }
+    found_other(others, at)
+}
+
+/// The same by binary search.
+#[cold]
+#[inline(never)]
+fn found_other(others: &[Other], at: usize) -> Content
+    requires order { (high : ℕ) × AreBetween 0 high others.now }
+    requires there { HasOther others.now at }
+    ensures { result ≡ other_at others.now at }
+{
+    match others.binary_search_by_key(&at, |other| other.at) {
+        Ok(place) => others[place].content,
+        Err(_) => unreachable!(),
+    }
+}
