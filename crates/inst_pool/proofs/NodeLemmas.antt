@@ -85,10 +85,10 @@ module _ (texts : List Content) (others : List Other) (texts' : List Content) (o
       → AreBetween 0 (length nodes + length more) others' → AreNodes texts' others' (nodes ++ more)
   fits_push nodes more h i t o =
       let e : length (nodes ++ more) ≡ length nodes + length more = length-append nodes more in record {
-    within = within_append 0 (length nodes) nodes more (omega arith) h.within i;
-    count = omega (arith, e, t);
-    order = rw e o;
-  }
+        within = within_append 0 (length nodes) nodes more (omega arith) h.within i;
+        count = omega (arith, e, t);
+        order = rw e o;
+      }
 
 -- ---- the content at a place
 
@@ -147,7 +147,7 @@ module _ (texts : List Content) (others : List Other) (nodes : List Node) (node 
   pub pushed_apart : contents_in texts (others ++ x ∷ []) 0 (nodes ++ node ∷ []) ≡ contents_in texts others 0 nodes ++ x.content ∷ []
   pushed_apart =
       let last : other_at (others ++ x ∷ []) (length nodes) ≡ x.content =
-          subst (λ (n : ℕ). other_at (others ++ x ∷ []) n ≡ x.content) place (other_last 0 (length nodes) others x h.order (omega (arith, place))) in
+      subst (λ (n : ℕ). other_at (others ++ x ∷ []) n ≡ x.content) place (other_last 0 (length nodes) others x h.order (omega (arith, place))) in
       let is = content_is texts (others ++ x ∷ []) (length nodes) node Apart (held_in node) kind refl ∙ last in
       pushed texts others texts (others ++ x ∷ []) (other_goes_on texts others x) nodes (node ∷ []) (x.content ∷ []) h (ap (λ (c : Content). c ∷ []) is)
 

@@ -13,7 +13,7 @@ unreachable-requires c =
     let facts = c.binary_search_by_key.ensures in
     let by_key = facts.position (λ other. other.at) (answers_always _ _ _ (λ f a r g called. search rules)) in
     let ends : IsBinarySearchResult (λ other. nat_cmp other.at c.args.at) others (Err c.in-Err.field-0) =
-        subst (λ (r : Result ℕ ℕ). IsBinarySearchResult (λ other. nat_cmp other.at c.args.at) others r) c.in-Err.is by_key in
+    subst (λ (r : Result ℕ ℕ). IsBinarySearchResult (λ other. nat_cmp other.at c.args.at) others r) c.in-Err.is by_key in
     let bound : c.in-Err.field-0 ≤ length others = subst (λ (r : Result ℕ ℕ). IsSearchInRange r (length others)) c.in-Err.is facts.bound in
     let any : Other = record { at = 0; content = long.Code 0 } in
     search_fails c.requires.order.0 others c.requires.order.1 c.args.at c.in-Err.field-0 any bound ends c.requires.there
@@ -24,7 +24,7 @@ returns c =
     let facts = c.binary_search_by_key.ensures in
     let by_key = facts.position (λ other. other.at) (answers_always _ _ _ (λ f a r g called. search rules)) in
     let ends : IsBinarySearchResult (λ other. nat_cmp other.at c.args.at) others (Ok c.in-Ok.place) =
-        subst (λ (r : Result ℕ ℕ). IsBinarySearchResult (λ other. nat_cmp other.at c.args.at) others r) c.in-Ok.is by_key in
+    subst (λ (r : Result ℕ ℕ). IsBinarySearchResult (λ other. nat_cmp other.at c.args.at) others r) c.in-Ok.is by_key in
     let bound : c.in-Ok.place < length others = subst (λ (r : Result ℕ ℕ). IsSearchInRange r (length others)) c.in-Ok.is facts.bound in
     let is = search_there c.requires.order.0 others c.requires.order.1 c.args.at c.in-Ok.place bound ends c.index-others-place.result in
     other_there 0 c.requires.order.0 others c.in-Ok.place c.args.at c.index-others-place.result c.requires.order.1 bound is

@@ -9,14 +9,14 @@ use Rattle.inst_pool.proofs.contents.Contents.push_apart.Goals as goal
 pub add_other-hint-requires : goal.add_other-hint-requires
 add_other-hint-requires c =
     let r : length (contents_in c.self.inside.texts.items c.self.inside.others.items 0 c.self.inside.nodes.items) < min (min (vec_capacity c.self.inside.nodes) (vec_capacity c.self.inside.others)) c.self.inside.texts.room =
-        rw (← c.self.view_is) at c.requires.room in
+    rw (← c.self.view_is) at c.requires.room in
     let l = length_contents c.self.inside.texts.items c.self.inside.others.items 0 c.self.inside.nodes.items in
     let n = between_count 0 (length c.self.inside.nodes.items) c.self.inside.others.items c.self.invariant.order in let o = c.self.inside.others.ok.0 in omega (arith, r, l, n, o)
 
 pub push_reserved-requires : goal.push_reserved-requires
 push_reserved-requires c =
     let r : length (contents_in c.self.inside.texts.items c.self.inside.others.items 0 c.self.inside.nodes.items) < min (min (vec_capacity c.self.inside.nodes) (vec_capacity c.self.inside.others)) c.self.inside.texts.room =
-        rw (← c.self.view_is) at c.requires.room in
+    rw (← c.self.view_is) at c.requires.room in
     let l = length_contents c.self.inside.texts.items c.self.inside.others.items 0 c.self.inside.nodes.items in let o = c.self.inside.nodes.ok.0 in omega (arith, r, l, o)
 
 pub invariant_of-self : goal.invariant_of-self

@@ -9,13 +9,13 @@ use Rattle.inst_pool.proofs.contents.Contents.push_within.Goals as goal
 pub shortened-requires : goal.shortened-requires
 shortened-requires c =
     let r : length (contents_in c.self.inside.texts.items c.self.inside.others.items 0 c.self.inside.nodes.items) + 3 ≤ min (min (vec_capacity c.self.inside.nodes) (vec_capacity c.self.inside.others)) c.self.inside.texts.room =
-        rw (← c.self.view_is) at c.requires.room in
+    rw (← c.self.view_is) at c.requires.room in
     let l = length_contents c.self.inside.texts.items c.self.inside.others.items 0 c.self.inside.nodes.items in let i = c.self.invariant.count in omega (arith, r, l, i)
 
 pub add_three-requires : goal.add_three-requires
 add_three-requires c =
     let r : length (contents_in c.self.inside.texts.items c.self.inside.others.items 0 c.self.inside.nodes.items) + 3 ≤ min (min (vec_capacity c.self.inside.nodes) (vec_capacity c.self.inside.others)) c.self.inside.texts.room =
-        rw (← c.self.view_is) at c.requires.room in
+    rw (← c.self.view_is) at c.requires.room in
     let l = length_contents c.self.inside.texts.items c.self.inside.others.items 0 c.self.inside.nodes.items in let o = c.self.inside.nodes.ok.0 in omega (arith, r, l, o)
 
 pub invariant_of-self-2 : goal.invariant_of-self-2

@@ -25,5 +25,5 @@ returns-clause-some c =
     let number = c.len-number.result - 1 in
     let count : number + 1 ≡ length c.self.inside.bounds.items = omega (arith, has.count, o, l) in
     let start : get_or c.self.inside.bounds.items number 0 ≡ c.args.start =
-        get_or_default c.self.inside.bounds.items number 0 c.index.result.now (omega (arith, count)) ∙ (sym c.index.ensures ∙ c.if-index-start.false) in
+    get_or_default c.self.inside.bounds.items number 0 c.index.result.now (omega (arith, count)) ∙ (sym c.index.ensures ∙ c.if-index-start.false) in
     rw (c.push_reserved.ensures.items, ← c.self.view_is) (texts_more c.self.inside.bounds.items number c.args.start c.args.end count start)
