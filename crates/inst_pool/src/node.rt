@@ -9,7 +9,7 @@ ghost use Rattle.inst_pool.specs.inner.Texts.{HasOneMore};
 ghost use Rattle.inst_pool.specs.declared.others.Other.{Other};
 
 use crate::content::{Content, piece_of as held_piece};
-use crate::others::{Other, other_of};
+use crate::others::{Other, other_place};
 use crate::piece::{Edge, Piece};
 use crate::texts::Texts;
 use data_types::LeafRef;
@@ -205,7 +205,10 @@ pub(crate) fn piece_of<'a>(
         Kind::Flag => Piece::Leaf(LeafRef::Flag(held == 1)),
         Kind::Code => Piece::Leaf(LeafRef::Code(held)),
         Kind::Close => Piece::Close(edge_of(held)),
-        Kind::Apart => held_piece(other_of(others, at, held as usize), bytes),
+        Kind::Apart => {
+            let place = other_place(others, at, held as usize);
+            held_piece(others[place].content, bytes)
+        }
     }
 }
 

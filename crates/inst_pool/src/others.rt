@@ -1,5 +1,5 @@
 //! The contents that do not fit in nodes.
-ghost use Rattle.std.specs.Prelude.{◌≡◌, ℕ, ◌<◌, ◌≤◌, ◌^◌, ◌++◌, [], ◌∷◌, vec_len, vec_capacity};
+ghost use Rattle.std.specs.Prelude.{◌≡◌, ℕ, ◌<◌, ◌≤◌, ◌^◌, ◌++◌, [], ◌∷◌, length, slice_index_or, vec_len, vec_capacity};
 ghost use Rattle.inst_pool.specs.inner.Others.{AreBetween, other_at, HasOther};
 
 use crate::content::Content;
@@ -27,32 +27,33 @@ pub(crate) fn add_other(others: &mut Vec<Other>, at: usize, content: Content) ->
     hint as u32
 }
 
-/// The content of the piece at that place. It is looked for where the hint says, and then among all.
+/// Where the content of the piece at that place stands: where the hint says, or else by a search among all.
 #[inline(never)]
-pub(crate) fn other_of(others: &[Other], at: usize, hint: usize) -> Content
+pub(crate) fn other_place(others: &[Other], at: usize, hint: usize) -> usize
     requires order { (high : ℕ) × AreBetween 0 high others.now }
     requires there { HasOther others.now at }
-    ensures { result ≡ other_at others.now at }
+    ensures place { result < length others.now }
+    ensures content { (d : Other) → (slice_index_or others.now result d).content ≡ other_at others.now at }
 {
     if hint < others.len() {
-        let other = others[hint];
-        if other.at == at {
-            return other.content;
+        if others[hint].at == at {
+            return hint;
         }
     }
-    found_other(others, at)
+    found_place(others, at)
 }
 
 /// The same by binary search.
 #[cold]
 #[inline(never)]
-fn found_other(others: &[Other], at: usize) -> Content
+fn found_place(others: &[Other], at: usize) -> usize
     requires order { (high : ℕ) × AreBetween 0 high others.now }
     requires there { HasOther others.now at }
-    ensures { result ≡ other_at others.now at }
+    ensures place { result < length others.now }
+    ensures content { (d : Other) → (slice_index_or others.now result d).content ≡ other_at others.now at }
 {
     match others.binary_search_by_key(&at, |other| other.at) {
-        Ok(place) => others[place].content,
+        Ok(place) => place,
         Err(_) => unreachable!(),
     }
 }

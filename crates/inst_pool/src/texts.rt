@@ -6,7 +6,7 @@ ghost use Rattle.inst_pool.specs.Contents.{piece_in, IsContentInside};
 ghost use Rattle.inst_pool.specs.Pieces.{room_limit};
 ghost use Rattle.inst_pool.specs.declared.content.Content.{Content};
 
-use crate::room::widen;
+use crate::room::lengthen;
 use std::alloc::{AllocError, Global};
 use std::marker::Model;
 
@@ -50,7 +50,7 @@ impl Texts {
         ensures room { self.old.room ≤ self.new.room }
         ensures items { self.new.items ≡ self.old.items }
     {
-        widen(&mut self.bounds, room + 1)?;
+        lengthen(&mut self.bounds, room + 1)?;
         if self.bounds.is_empty() {
             self.bounds.push_reserved(0);
         }
