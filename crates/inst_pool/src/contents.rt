@@ -5,29 +5,33 @@ ghost use Rattle.inst_pool.specs.Contents.{piece_in, AreInside};
 ghost use Rattle.inst_pool.specs.Pieces.{piece_of, room_limit};
 
 use crate::content::Content;
-use crate::node::{Node, long_at, piece_of, short_edge, shortened};
+use crate::node::{Kind, Node, piece_of, short_edge, shortened};
+use crate::others::{Other, add_other};
 use crate::piece::{Edge, Piece};
 use crate::room::{lengthen, widen};
+use crate::texts::Texts;
 use std::alloc::{AllocError, Global};
 use std::marker::Model;
 
-/// A list of contents, most of them in eight bytes.
+/// A list of contents, most of them in four bytes, and texts in four more.
 #[derive(Debug, Drop)]
 pub(crate) struct Contents {
     nodes: Vec<Node>,
+    texts: Texts,
     /// Those that do not fit in a node.
-    long: Vec<Content>,
+    others: Vec<Other>,
 }
 
 impl Model for Contents {
-    ghost use Rattle.std.specs.Prelude.{◌≤◌, length, min, vec_capacity};
-    ghost use Rattle.inst_pool.specs.inner.Nodes.{Packed, contents_in, AreNodesWithin};
+    ghost use Rattle.std.specs.Prelude.{min, vec_capacity};
+    ghost use Rattle.inst_pool.specs.inner.Packed.{Packed};
+    ghost use Rattle.inst_pool.specs.inner.Nodes.{contents_in, AreNodes};
 
     ghost Value = { Packed };
 
-    ghost view = { λ c. record { items = contents_in c.long.items c.nodes.items; room = min (vec_capacity c.nodes) (vec_capacity c.long) } };
+    ghost view = { λ c. record { items = contents_in c.texts.items c.others.items 0 c.nodes.items; room = min (min (vec_capacity c.nodes) (vec_capacity c.others)) c.texts.room } };
 
-    ghost invariant = { λ c. AreNodesWithin (length c.long.items) c.nodes.items × (length c.long.items ≤ length c.nodes.items) };
+    ghost invariant = { λ c. AreNodes c.texts.items c.others.items c.nodes.items };
 }
 
 impl Contents {
@@ -37,7 +41,8 @@ impl Contents {
     {
         Contents {
             nodes: Vec::new(alloc),
-            long: Vec::new(alloc),
+            texts: Texts::new(alloc),
+            others: Vec::new(alloc),
         }
     }
 
@@ -55,17 +60,20 @@ impl Contents {
         requires inside { AreInside (length bytes.now) self.now.items }
         ensures { option_map (piece_in bytes.now) (slice_get self.now.items at) ≡ Some (piece_of result) }
     {
-        piece_of(&self.nodes[at], self.long.as_slice(), bytes)
+        let others = self.others.as_slice();
+        piece_of(self.nodes[at], at, &self.texts, others, bytes)
     }
 
     /// Makes room for so many in all.
     pub(crate) fn widen(&mut self, room: usize) -> Result<(), AllocError>
+        requires { room ≤ room_limit }
         ensures ok { OnOk result (room ≤ self.new.room) }
         ensures room { self.old.room ≤ self.new.room }
         ensures items { self.new.items ≡ self.old.items }
     {
         lengthen(&mut self.nodes, room)?;
-        widen(&mut self.long, room)?;
+        widen(&mut self.others, room)?;
+        self.texts.widen(room)?;
         Ok(())
     }
 
@@ -77,8 +85,8 @@ impl Contents {
         ensures items { self.new.items ≡ self.old.items ++ content ∷ [] }
         ensures room { self.new.room ≡ self.old.room }
     {
-        let Some(node) = shortened(&content) else {
-            self.push_long(content);
+        let Some(node) = shortened(&content, &mut self.texts) else {
+            self.push_apart(content);
             return;
         };
         self.nodes.push_reserved(node);
@@ -86,15 +94,15 @@ impl Contents {
 
     /// Appends a content that does not fit in a node.
     #[inline(never)]
-    fn push_long(&mut self, content: Content)
+    fn push_apart(&mut self, content: Content)
         requires room { length self.old.items < self.old.room }
         requires limit { length self.old.items < room_limit }
         ensures items { self.new.items ≡ self.old.items ++ content ∷ [] }
         ensures room { self.new.room ≡ self.old.room }
     {
-        let place = self.long.len();
-        add_long(&mut self.long, content);
-        self.nodes.push_reserved(long_at(place));
+        let at = self.nodes.len();
+        let hint = add_other(&mut self.others, at, content);
+        self.nodes.push_reserved(Node::new(Kind::Apart, hint));
     }
 
     /// Appends an element that begins, a content and the end of the element, for which there is room.
@@ -105,15 +113,17 @@ impl Contents {
         ensures items { self.new.items ≡ self.old.items ++ Content.Open edge ∷ content ∷ Content.Close edge ∷ [] }
         ensures room { self.new.room ≡ self.old.room }
     {
-        let Some(short) = short_edge(edge) else {
+        let Some(held) = short_edge(edge) else {
             self.push_each(edge, content);
             return;
         };
-        let Some(node) = shortened(&content) else {
+        let Some(node) = shortened(&content, &mut self.texts) else {
             self.push_each(edge, content);
             return;
         };
-        add_three(&mut self.nodes, Node::Open(short), node, Node::Close(short));
+        let open = Node::new(Kind::Open, held);
+        let close = Node::new(Kind::Close, held);
+        add_three(&mut self.nodes, open, node, close);
     }
 
     /// The same, of what need not fit in nodes.
@@ -136,7 +146,8 @@ impl Contents {
         ensures room { self.new.room ≡ self.old.room }
     {
         self.nodes.clear();
-        self.long.clear();
+        self.texts.clear();
+        self.others.clear();
     }
 }
 
@@ -150,13 +161,4 @@ fn add_three(nodes: &mut Vec<Node>, first: Node, second: Node, third: Node)
     nodes.push_reserved(first);
     nodes.push_reserved(second);
     nodes.push_reserved(third);
-}
-
-/// Appends a long content to its block.
-fn add_long(long: &mut Vec<Content>, content: Content)
-    requires { vec_len long.old < vec_capacity long.old }
-    ensures items { long.new.items ≡ long.old.items ++ content ∷ [] }
-    ensures room { vec_capacity long.new ≡ vec_capacity long.old }
-{
-    long.push_reserved(content);
 }

@@ -22,8 +22,10 @@ mod contents;
 mod instance;
 mod node;
 mod numbers;
+mod others;
 mod piece;
 mod room;
+mod texts;
 mod walk;
 
 pub use builder::Builder;

@@ -1,222 +1,237 @@
-//! Contents in eight bytes each. What does not fit stands in a block of its own, of which the node has the place.
-ghost use Rattle.std.specs.Prelude.{◌≡◌, ◌<◌, ◌^◌, ℕ, List, true, length, slice_index_or, IfSome};
+//! Contents in four bytes each. What does not fit stands in a block of its own.
+ghost use Rattle.std.specs.Prelude.{◌≡◌, ◌<◌, ◌≤◌, ◌^◌, ℕ, List, true, length, IfSome, IfNone};
 ghost use Rattle.lexical_core.specs.Decimals.{IsDecimal};
 ghost use Rattle.inst_pool.specs.Contents.{piece_in, IsContentInside};
 ghost use Rattle.inst_pool.specs.Pieces.{piece_of};
-ghost use Rattle.inst_pool.specs.inner.Nodes.{edge_in, low_in, place_of_short, decimal_in, content_of, IsNodeWithin, bytes_in};
-ghost use Rattle.inst_pool.specs.declared.content.Content.{Content};
+ghost use Rattle.inst_pool.specs.inner.Nodes.{kind_of, kind_in, held_in, edge_in, decimal_in, content_of, IsNodeWithin};
+ghost use Rattle.inst_pool.specs.inner.Others.{AreBetween};
+ghost use Rattle.inst_pool.specs.inner.Texts.{HasOneMore};
+ghost use Rattle.inst_pool.specs.declared.others.Other.{Other};
 
 use crate::content::{Content, piece_of as held_piece};
+use crate::others::{Other, other_place};
 use crate::piece::{Edge, Piece};
+use crate::texts::Texts;
 use data_types::LeafRef;
 use lexical_core::Decimal;
 
-/// The greatest number of 16 bits.
-const MOST: u64 = 0xFFFF;
+/// Numbers below this have 29 bits.
+const MOST_HELD: u32 = 1 << 29;
 
-/// Three numbers of 16 bits.
+/// What kind of content a node stands for.
 #[derive(Clone, Copy, Debug)]
-pub(crate) struct Short {
-    pub(crate) first: u16,
-    pub(crate) second: u16,
-    pub(crate) third: u16,
-}
-
-/// A content in short.
-#[derive(Clone, Copy, Debug)]
-pub(crate) enum Node {
-    /// An element begins, with its slot, its type and that of its parent.
-    Open(Short),
-    /// Bytes: two numbers say where they begin, and the third how many there are.
-    Bytes(Short),
-    /// A number: two numbers say its whole part, and the third its scale.
-    Number(Short),
-    Flag(bool),
-    /// A code: two numbers say its place.
-    Code(Short),
+pub(crate) enum Kind {
+    /// An element begins.
+    Open,
+    /// Bytes: the number of a short text.
+    Bytes,
+    Number,
+    Flag,
+    Code,
     /// An element ends.
-    Close(Short),
-    /// Any other: three numbers say its place in the block of long contents.
-    Long(Short),
+    Close,
+    /// Any other: it stands apart, and the number is a hint where.
+    Apart,
 }
 
-const _: () = prove!(size_of::<Node>() == 8);
+/// A content in short: three bits tell its kind, and the others a number.
+#[derive(Clone, Copy, Debug)]
+pub(crate) struct Node {
+    pub(crate) word: u32,
+}
 
-/// Whether the numbers of the edge have 16 bits, and their sum too, which is one comparison.
+const _: () = prove!(size_of::<Node>() == 4);
+
+impl Node {
+    /// The node of this kind with this number.
+    #[inline(always)]
+    pub(crate) fn new(kind: Kind, held: u32) -> Node
+        requires { held < 2 ^ 29 }
+        ensures kind { kind_in result ≡ kind }
+        ensures held { held_in result ≡ held }
+    {
+        Node {
+            word: held * 8 + bits_of(kind),
+        }
+    }
+
+    /// Its kind.
+    #[inline(always)]
+    fn kind(self) -> Kind
+        ensures { result ≡ kind_in self }
+    {
+        match self.word % 8 {
+            0 => Kind::Open,
+            1 => Kind::Bytes,
+            2 => Kind::Number,
+            3 => Kind::Flag,
+            4 => Kind::Code,
+            5 => Kind::Close,
+            _ => Kind::Apart,
+        }
+    }
+
+    /// The number that it holds.
+    #[inline(always)]
+    fn held(self) -> u32
+        ensures held { result ≡ held_in self }
+        ensures fits { result < 2 ^ 29 }
+    {
+        self.word / 8
+    }
+}
+
+/// The three bits that tell a kind.
+#[inline(always)]
+fn bits_of(kind: Kind) -> u32
+    ensures kind { kind_of result ≡ kind }
+    ensures fits { result < 8 }
+{
+    match kind {
+        Kind::Open => 0,
+        Kind::Bytes => 1,
+        Kind::Number => 2,
+        Kind::Flag => 3,
+        Kind::Code => 4,
+        Kind::Close => 5,
+        Kind::Apart => 6,
+    }
+}
+
+/// Whether 7 bits say the slot of the edge, and 11 bits each type, which is one comparison.
 #[inline(always)]
 fn is_short(edge: Edge) -> bool
-    ensures { result ≡ true → (edge.slot < 65536) × (edge.target < 65536) × (edge.parent < 65536) }
+    ensures { result ≡ true → (edge.slot < 128) × (edge.target < 2048) × (edge.parent < 2048) }
 {
-    edge.slot as u64 + edge.target as u64 + edge.parent as u64 <= MOST
+    (edge.slot as u64 * 16 | edge.target as u64 | edge.parent as u64) < 2048
 }
 
-/// The numbers of an edge, where they have 16 bits.
+/// The number that tells an edge, where it has 29 bits.
 #[inline(always)]
-pub(crate) fn short_edge(edge: Edge) -> Option<Short>
-    ensures { IfSome result (λ s. edge_in s ≡ edge) }
+pub(crate) fn short_edge(edge: Edge) -> Option<u32>
+    ensures edge { IfSome result (λ held. edge_in held ≡ edge) }
+    ensures fits { IfSome result (λ held. held < 2 ^ 29) }
 {
     if is_short(edge) {
-        return Some(Short {
-            first: edge.slot as u16,
-            second: edge.target as u16,
-            third: edge.parent as u16,
-        });
+        return Some(edge.slot + edge.target * 128 + edge.parent * 0x4_0000);
     }
     None
 }
 
-/// Where bytes begin and how many there are, where 32 and 16 bits say it.
+/// The number that tells a decimal without a sign, where 26 bits say its whole part and 3 its scale.
 #[inline(always)]
-fn short_bytes(start: usize, end: usize) -> Option<Short>
-    ensures { IfSome result (λ s. bytes_in s ≡ Content.Bytes start end) }
-{
-    if start > 0xFFFF_FFFF || end < start || end - start > 0xFFFF {
-        return None;
-    }
-    Some(Short {
-        first: (start % 65536) as u16,
-        second: (start / 65536) as u16,
-        third: (end - start) as u16,
-    })
-}
-
-/// A number with no sign, whose whole part has 32 bits.
-#[inline(always)]
-fn short_decimal(number: &Decimal) -> Option<Short>
-    ensures number { IfSome result (λ s. decimal_in s ≡ number.now) }
-    ensures decimal { IfSome result (λ s. IsDecimal (decimal_in s)) }
+fn short_decimal(number: &Decimal) -> Option<u32>
+    ensures number { IfSome result (λ held. decimal_in held ≡ number.now) }
+    ensures decimal { IfSome result (λ held. IsDecimal (decimal_in held)) }
+    ensures fits { IfSome result (λ held. held < 2 ^ 29) }
 {
     let whole = number.whole();
-    if whole < 0 || whole > 0xFFFF_FFFF {
+    let scale = number.scale();
+    if whole < 0 || whole >= 0x400_0000 || scale >= 8 {
         return None;
     }
     let size = whole as u64;
-    Some(Short {
-        first: (size % 65536) as u16,
-        second: (size / 65536) as u16,
-        third: number.scale() as u16,
-    })
+    Some(size as u32 * 8 + scale as u32)
 }
 
-/// A number of 32 bits.
-fn short_number(number: u32) -> Short
-    ensures { low_in result ≡ number }
-{
-    Short {
-        first: (number % 65536) as u16,
-        second: (number / 65536) as u16,
-        third: 0,
-    }
-}
-
-/// The node of a content at that place of the block of long ones.
-pub(crate) fn long_at(place: usize) -> Node
-    requires { place < 2 ^ 48 }
-    ensures content { (long : List Content) → content_of long result ≡ slice_index_or long place (Content.Code 0) }
-    ensures within { (count : ℕ) → place < count → IsNodeWithin count result }
-{
-    Node::Long(Short {
-        first: (place % 65536) as u16,
-        second: (place / 65536 % 65536) as u16,
-        third: (place / 0x1_0000_0000) as u16,
-    })
-}
-
-/// The content in short, where it fits.
+/// The content of the piece at a place in short, where it fits; bytes are then noted as a text.
 #[inline(always)]
-pub(crate) fn shortened(content: &Content) -> Option<Node>
-    ensures content { IfSome result (λ n. (long : List Content) → content_of long n ≡ content.now) }
-    ensures within { IfSome result (λ n. (count : ℕ) → IsNodeWithin count n) }
+pub(crate) fn shortened(content: &Content, texts: &mut Texts) -> Option<Node>
+    requires { length texts.old.items < texts.old.room }
+    ensures content { IfSome result (λ node. (others : List Other) (at : ℕ) → content_of texts.new.items others at node ≡ content.now) }
+    ensures within { IfSome result (λ node. (others : List Other) (at : ℕ) → IsNodeWithin texts.new.items others at node) }
+    ensures more { HasOneMore texts.old.items texts.new.items }
+    ensures none { IfNone result (texts.new.items ≡ texts.old.items) }
+    ensures room { texts.new.room ≡ texts.old.room }
 {
     match content {
         Content::Open(edge) => {
-            let Some(short) = short_edge(*edge) else {
+            let Some(held) = short_edge(*edge) else {
                 return None;
             };
-            Some(Node::Open(short))
+            Some(Node::new(Kind::Open, held))
         }
         Content::Bytes(start, end) => {
-            let Some(short) = short_bytes(*start, *end) else {
+            let Some(number) = texts.add(*start, *end) else {
                 return None;
             };
-            Some(Node::Bytes(short))
+            Some(Node::new(Kind::Bytes, number))
         }
         Content::Number(number) => {
-            let Some(short) = short_decimal(number) else {
+            let Some(held) = short_decimal(number) else {
                 return None;
             };
-            Some(Node::Number(short))
+            Some(Node::new(Kind::Number, held))
         }
-        Content::Flag(flag) => Some(Node::Flag(*flag)),
-        Content::Code(place) => Some(Node::Code(short_number(*place))),
+        Content::Flag(flag) => {
+            let held = if *flag { 1 } else { 0 };
+            Some(Node::new(Kind::Flag, held))
+        }
+        Content::Code(place) => {
+            let held = *place;
+            if held >= MOST_HELD {
+                return None;
+            }
+            Some(Node::new(Kind::Code, held))
+        }
         Content::Close(edge) => {
-            let Some(short) = short_edge(*edge) else {
+            let Some(held) = short_edge(*edge) else {
                 return None;
             };
-            Some(Node::Close(short))
+            Some(Node::new(Kind::Close, held))
         }
     }
 }
 
-/// The piece that a node stands for, whose bytes stand in a block.
+/// The piece that the node at that place stands for, whose bytes stand in a block.
 #[inline(always)]
-pub(crate) fn piece_of<'a>(node: &Node, long: &[Content], bytes: &'a [u8]) -> Piece<'a>
-    requires within { IsNodeWithin (length long.now) node.now }
-    requires inside { IsContentInside (length bytes.now) (content_of long.now node.now) }
-    ensures { piece_of result ≡ piece_in bytes.now (content_of long.now node.now) }
+pub(crate) fn piece_of<'a>(
+    node: Node,
+    at: usize,
+    texts: &Texts,
+    others: &[Other],
+    bytes: &'a [u8],
+) -> Piece<'a>
+    requires order { (high : ℕ) × AreBetween 0 high others.now }
+    requires within { IsNodeWithin texts.now.items others.now at node }
+    requires inside { IsContentInside (length bytes.now) (content_of texts.now.items others.now at node) }
+    ensures { piece_of result ≡ piece_in bytes.now (content_of texts.now.items others.now at node) }
 {
-    match node {
-        Node::Open(short) => Piece::Open(edge_of(short)),
-        Node::Bytes(short) => {
-            let start = low_of(short);
-            let end = start + short.third as usize;
-            Piece::Leaf(LeafRef::Bytes(&bytes[start..end]))
+    let held = node.held();
+    match node.kind() {
+        Kind::Open => Piece::Open(edge_of(held)),
+        Kind::Bytes => Piece::Leaf(LeafRef::Bytes(texts.text(held as usize, bytes))),
+        Kind::Number => Piece::Leaf(LeafRef::Number(decimal_of(held))),
+        Kind::Flag => Piece::Leaf(LeafRef::Flag(held == 1)),
+        Kind::Code => Piece::Leaf(LeafRef::Code(held)),
+        Kind::Close => Piece::Close(edge_of(held)),
+        Kind::Apart => {
+            let place = other_place(others, at, held as usize);
+            held_piece(others[place].content, bytes)
         }
-        Node::Number(short) => Piece::Leaf(LeafRef::Number(decimal_of(short))),
-        Node::Flag(flag) => Piece::Leaf(LeafRef::Flag(*flag)),
-        Node::Code(short) => {
-            let place = short.first as u32 + short.second as u32 * 65536;
-            Piece::Leaf(LeafRef::Code(place))
-        }
-        Node::Close(short) => Piece::Close(edge_of(short)),
-        Node::Long(short) => held_piece(long[place_of(short)], bytes),
     }
 }
 
-/// The edge that three numbers tell.
-fn edge_of(short: &Short) -> Edge
-    ensures { result ≡ edge_in short.now }
+/// The edge that a number tells.
+#[inline(always)]
+fn edge_of(held: u32) -> Edge
+    ensures { result ≡ edge_in held }
 {
     Edge {
-        slot: short.first as u32,
-        target: short.second as u32,
-        parent: short.third as u32,
+        slot: held % 128,
+        target: held / 128 % 2048,
+        parent: held / 0x4_0000,
     }
 }
 
-/// The decimal that three numbers tell.
+/// The decimal that a number tells.
 #[inline(never)]
-fn decimal_of(short: &Short) -> Decimal
-    requires { IsDecimal (decimal_in short.now) }
-    ensures { result ≡ decimal_in short.now }
+fn decimal_of(held: u32) -> Decimal
+    requires { IsDecimal (decimal_in held) }
+    ensures { result ≡ decimal_in held }
 {
-    let Some(number) = Decimal::make(low_of(short) as i64, short.third as u8) else {
+    let Some(number) = Decimal::make((held / 8) as i64, (held % 8) as u8) else {
         unreachable!()
     };
     number
-}
-
-/// The number of 32 bits that the first two tell.
-fn low_of(short: &Short) -> usize
-    ensures low { result ≡ low_in short.now }
-    ensures most { result < 2 ^ 32 }
-{
-    short.first as usize + short.second as usize * 65536
-}
-
-/// The number of 48 bits that the three tell.
-fn place_of(short: &Short) -> usize
-    ensures { result ≡ place_of_short short.now }
-{
-    low_of(short) + short.third as usize * 0x1_0000_0000
 }

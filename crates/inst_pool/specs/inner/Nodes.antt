@@ -1,58 +1,75 @@
 -- Contents in short.
-use Rattle.std.specs.Prelude.{ℕ, ◌+◌, ◌*◌, ◌<◌, List, [], ◌∷◌, slice_index_or, pos}
+use Rattle.std.specs.Prelude.{ℕ, zero, suc, ◌/◌, ◌%◌, ◌<◌, ◌≤◌, ◌==◌, List, [], ◌∷◌, length, slice_index_or, pos}
 use Rattle.lexical_core.specs.Decimals.{Number as DecimalNumber, IsDecimal}
+use Rattle.inst_pool.specs.inner.Others.{AreBetween, other_at, HasOther}
 use Rattle.inst_pool.specs.declared.piece.Edge.{Edge}
 use Rattle.inst_pool.specs.declared.content.Content.{Content}
 use Rattle.inst_pool.specs.declared.content.Content.TheVariants as long
-use Rattle.inst_pool.specs.declared.node.Short.{Short}
+use Rattle.inst_pool.specs.declared.node.Kind.{Kind}
+use Rattle.inst_pool.specs.declared.node.Kind.TheVariants.{Open, Bytes, Number, Flag, Code, Close, Apart}
 use Rattle.inst_pool.specs.declared.node.Node.{Node}
-use Rattle.inst_pool.specs.declared.node.Node.TheVariants.{Open, Bytes, Number, Flag, Code, Close, Long}
+use Rattle.inst_pool.specs.declared.others.Other.{Other}
 
--- the edge that three numbers tell
-abbrev pub edge_in : Short → Edge
-edge_in s = record { slot = s.first; target = s.second; parent = s.third }
+-- the kind that three bits tell
+abbrev pub kind_of : ℕ → Kind
+kind_of zero = Open
+kind_of (suc zero) = Bytes
+kind_of (suc (suc zero)) = Number
+kind_of (suc (suc (suc zero))) = Flag
+kind_of (suc (suc (suc (suc zero)))) = Code
+kind_of (suc (suc (suc (suc (suc zero))))) = Close
+kind_of bits = Apart
 
--- the number of 32 bits that the first two tell
-abbrev pub low_in : Short → ℕ
-low_in s = s.first + s.second * 65536
+-- what the lowest three bits of a node tell, and the number of 29 bits that it holds
+abbrev pub kind_in : Node → Kind
+kind_in node = kind_of (node.word % 8)
 
--- the number of 48 bits that the three tell
-abbrev pub place_of_short : Short → ℕ
-place_of_short s = low_in s + s.third * 0x1_0000_0000
+abbrev pub held_in : Node → ℕ
+held_in node = node.word / 8
 
--- the number whose whole part the first two tell, and whose scale the third
-abbrev pub decimal_in : Short → DecimalNumber
-decimal_in s = record { whole = pos (low_in s); scale = s.third }
+-- the edge that a number tells: 7 bits for the slot, and 11 for each type
+abbrev pub edge_in : ℕ → Edge
+edge_in held = record { slot = held % 128; target = held / 128 % 2048; parent = held / 0x4_0000 }
 
-abbrev pub bytes_in : Short → Content
-bytes_in s = long.Bytes (low_in s) (low_in s + s.third)
+-- the decimal that a number tells: 3 bits for the scale
+abbrev pub decimal_in : ℕ → DecimalNumber
+decimal_in held = record { whole = pos (held / 8); scale = held % 8 }
 
--- the content that a node stands for, over the block of long contents
-abbrev pub content_of : List Content → Node → Content
-content_of block (Open s) = long.Open (edge_in s)
-content_of block (Bytes s) = bytes_in s
-content_of block (Number s) = long.Number (decimal_in s)
-content_of block (Flag flag) = long.Flag flag
-content_of block (Code s) = long.Code (low_in s)
-content_of block (Close s) = long.Close (edge_in s)
-content_of block (Long s) = slice_index_or block (place_of_short s) (long.Code 0)
+-- the content of a piece at a place by the kind and the number of its node, beside the short texts and the other contents
+abbrev pub content_by : List Content → List Other → ℕ → Kind → ℕ → Content
+content_by texts others at Open held = long.Open (edge_in held)
+content_by texts others at Bytes held = slice_index_or texts held (long.Code 0)
+content_by texts others at Number held = long.Number (decimal_in held)
+content_by texts others at Flag held = long.Flag (held == 1)
+content_by texts others at Code held = long.Code held
+content_by texts others at Close held = long.Close (edge_in held)
+content_by texts others at Apart held = other_at others at
 
--- its place is one of a block of so many, and its number one that a leaf has
-abbrev pub IsNodeWithin : ℕ → Node → Type 0
-IsNodeWithin count (Number s) = IsDecimal (decimal_in s)
-IsNodeWithin count (Long s) = place_of_short s < count
-IsNodeWithin count node = Unit {0}
+abbrev pub content_of : List Content → List Other → ℕ → Node → Content
+content_of texts others at node = content_by texts others at (kind_in node) (held_in node)
 
-abbrev pub AreNodesWithin : ℕ → List Node → Type 0
-AreNodesWithin count [] = Unit {0}
-AreNodesWithin count (node ∷ nodes) = IsNodeWithin count node × AreNodesWithin count nodes
+-- what a node leads to is there, and its number one that a leaf has
+abbrev pub IsKindWithin : List Content → List Other → ℕ → Kind → ℕ → Type 0
+IsKindWithin texts others at Bytes held = held < length texts
+IsKindWithin texts others at Number held = IsDecimal (decimal_in held)
+IsKindWithin texts others at Apart held = HasOther others at
+IsKindWithin texts others at kind held = Unit {0}
 
--- the contents that nodes stand for
-abbrev pub contents_in : List Content → List Node → List Content
-contents_in block [] = []
-contents_in block (node ∷ nodes) = content_of block node ∷ contents_in block nodes
+abbrev pub IsNodeWithin : List Content → List Other → ℕ → Node → Type 0
+IsNodeWithin texts others at node = IsKindWithin texts others at (kind_in node) (held_in node)
 
--- a list of contents, and for how many in all there is room
-pub record Packed : Type 0 where
-  pub items : List Content
-  pub room : ℕ
+-- the same of all nodes, the first of which stands at that place
+abbrev pub AreNodesWithin : List Content → List Other → ℕ → List Node → Type 0
+AreNodesWithin texts others at [] = Unit {0}
+AreNodesWithin texts others at (node ∷ nodes) = IsNodeWithin texts others at node × AreNodesWithin texts others (suc at) nodes
+
+-- the contents of nodes, the first of which stands at that place
+abbrev pub contents_in : List Content → List Other → ℕ → List Node → List Content
+contents_in texts others at [] = []
+contents_in texts others at (node ∷ nodes) = content_of texts others at node ∷ contents_in texts others (suc at) nodes
+
+-- the nodes fit the short texts and the other contents
+pub record AreNodes (texts : List Content) (others : List Other) (nodes : List Node) : Type 0 where
+  pub within : AreNodesWithin texts others 0 nodes
+  pub count : length texts ≤ length nodes
+  pub order : AreBetween 0 (length nodes) others

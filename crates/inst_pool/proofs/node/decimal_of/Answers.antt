@@ -1,5 +1,5 @@
 -- The number is the only one with this whole part and this scale.
-use Rattle.std.proofs.Common.{arith}
+use Rattle.std.proofs.Common.{◌/◌, arith}
 use mir.Syntax.{w64}
 use Rattle.std.proofs.lemmas.Int.{to_z_pos}
 use Rattle.lexical_core.proofs.DecimalLaws.{one_number}
@@ -9,12 +9,12 @@ use Rattle.inst_pool.proofs.node.decimal_of.Goals as goal
 
 pub unreachable-requires : goal.unreachable-requires
 unreachable-requires c =
-    let most = c.low_of.ensures.most in
-    let is = to_z_pos w64 c.low_of.result (omega (arith, most)) in
-    c.in_default.ensures.none (decimal_in c.args.short.now) c.requires (rw (is, c.low_of.ensures.low) (number_itself (decimal_in c.args.short.now)))
+    let fits = c.ranges.held in
+    let is = to_z_pos w64 (c.args.held / 8) (omega (arith, fits)) in
+    c.in_default.ensures.none (decimal_in c.args.held) c.requires (rw is (number_itself (decimal_in c.args.held)))
 
 pub returns : goal.returns
 returns c =
-    let most = c.low_of.ensures.most in
-    let is = to_z_pos w64 c.low_of.result (omega (arith, most)) in
-    one_number _ _ _ _ (decimal_in c.args.short.now) c.in-Some.ensures.decimal c.requires c.in-Some.ensures.number (rw (is, c.low_of.ensures.low) (number_itself (decimal_in c.args.short.now)))
+    let fits = c.ranges.held in
+    let is = to_z_pos w64 (c.args.held / 8) (omega (arith, fits)) in
+    one_number _ _ _ _ (decimal_in c.args.held) c.in-Some.ensures.decimal c.requires c.in-Some.ensures.number (rw is (number_itself (decimal_in c.args.held)))

@@ -1,27 +1,39 @@
-use Rattle.std.proofs.Common.{◌∷◌, [], length, ap, arith, length-append}
-use Rattle.std.specs.Prelude.{◌+◌, ◌≤◌, min, vec_capacity}
+use Rattle.std.proofs.Common.{◌+◌, ◌≤◌, List, ◌∷◌, [], length, suc, refl, ap₂, arith}
+use Rattle.std.specs.Prelude.{min, vec_capacity}
 use Rattle.inst_pool.specs.inner.Nodes.{contents_in}
+use Rattle.inst_pool.specs.declared.content.Content.{Content}
 use Rattle.inst_pool.specs.declared.content.Content.TheVariants as long
-use Rattle.inst_pool.specs.declared.node.Node.TheVariants.{Open, Close}
-use Rattle.inst_pool.proofs.NodeLemmas.{length_contents, within-append, pushed_three}
+use Rattle.inst_pool.proofs.NodeLemmas.{length_contents, short_fits, pushed_short, opens, closes, open_within, close_within}
 use Rattle.inst_pool.proofs.contents.Contents.push_within.Goals as goal
+
+pub shortened-requires : goal.shortened-requires
+shortened-requires c =
+    let r : length (contents_in c.self.inside.texts.items c.self.inside.others.items 0 c.self.inside.nodes.items) + 3 ≤ min (min (vec_capacity c.self.inside.nodes) (vec_capacity c.self.inside.others)) c.self.inside.texts.room =
+    rw (← c.self.view_is) at c.requires.room in
+    let l = length_contents c.self.inside.texts.items c.self.inside.others.items 0 c.self.inside.nodes.items in let i = c.self.invariant.count in omega (arith, r, l, i)
 
 pub add_three-requires : goal.add_three-requires
 add_three-requires c =
-    let r : length (contents_in c.self.inside.long.items c.self.inside.nodes.items) + 3 ≤ min (vec_capacity c.self.inside.nodes) (vec_capacity c.self.inside.long) = rw (← c.self.view_is) at c.requires.room in
-    let l = length_contents c.self.inside.long.items c.self.inside.nodes.items in let o = c.self.inside.nodes.ok.0 in omega (arith, r, l, o)
+    let r : length (contents_in c.self.inside.texts.items c.self.inside.others.items 0 c.self.inside.nodes.items) + 3 ≤ min (min (vec_capacity c.self.inside.nodes) (vec_capacity c.self.inside.others)) c.self.inside.texts.room =
+    rw (← c.self.view_is) at c.requires.room in
+    let l = length_contents c.self.inside.texts.items c.self.inside.others.items 0 c.self.inside.nodes.items in let o = c.self.inside.nodes.ok.0 in omega (arith, r, l, o)
 
-pub invariant_of-self : goal.invariant_of-self
-invariant_of-self c =
-    let more = length-append c.self.inside.nodes.items (Open c.in-Some.short ∷ c.in-Some-shortened.node ∷ Close c.in-Some.short ∷ []) in
-    let i = c.self.invariant.1 in
-    rw c.add_three.ensures.items (
-      within-append (length c.self.inside.long.items) c.self.inside.nodes.items _ c.self.invariant.0 (tt, (c.in-Some-shortened.ensures.within _, (tt, tt))),
-      omega (arith, more, i),
-    )
+pub invariant_of-self-2 : goal.invariant_of-self-2
+invariant_of-self-2 c =
+    let texts = c.shortened.new.texts.items in
+    let others = c.self.inside.others.items in
+    let at = length c.self.inside.nodes.items in
+    rw c.add_three.ensures.items (short_fits c.self.inside.texts.items others texts c.self.inside.nodes.items (c.new-open.result ∷ c.in-Some-shortened.node ∷ c.new-close.result ∷ []) c.self.invariant c.shortened.ensures.more
+    (omega arith) (open_within texts others at c.new-open.result c.new-open.ensures.kind, (c.in-Some-shortened.ensures.within others (suc at), (close_within texts others (suc (suc at)) c.new-close.result c.new-close.ensures.kind, tt))))
 
 pub returns-clause-items : goal.returns-clause-items
 returns-clause-items c =
-    let block = c.self.inside.long.items in
-    rw (c.add_three.ensures.items, ← c.self.view_is) (pushed_three block c.self.inside.nodes.items (Open c.in-Some.short) c.in-Some-shortened.node (Close c.in-Some.short) (long.Open c.args.edge) c.args.content (long.Close c.args.edge)
-    (ap long.Open c.in-Some.ensures) (c.in-Some-shortened.ensures.content block) (ap long.Close c.in-Some.ensures))
+    let texts = c.shortened.new.texts.items in
+    let others = c.self.inside.others.items in
+    let at = length c.self.inside.nodes.items in
+    let first = opens texts others at c.new-open.result c.in-Some.held c.args.edge c.new-open.ensures.kind c.new-open.ensures.held c.in-Some.ensures.edge in
+    let second = c.in-Some-shortened.ensures.content others (suc at) in
+    let third = closes texts others (suc (suc at)) c.new-close.result c.in-Some.held c.args.edge c.new-close.ensures.kind c.new-close.ensures.held c.in-Some.ensures.edge in
+    rw (c.add_three.ensures.items, ← c.self.view_is) (pushed_short c.self.inside.texts.items others texts c.self.inside.nodes.items (c.new-open.result ∷ c.in-Some-shortened.node ∷ c.new-close.result ∷ []) c.self.invariant
+    c.shortened.ensures.more (long.Open c.args.edge ∷ c.args.content ∷ long.Close c.args.edge ∷ [])
+    (ap₂ (λ (x : Content) (l : List Content). x ∷ l) first (ap₂ (λ (x : Content) (l : List Content). x ∷ l) second (ap₂ (λ (x : Content) (l : List Content). x ∷ l) third refl))))
