@@ -39,4 +39,5 @@ pub mod ShownFed
 pub mod ShownUsual
 pub mod Keeping
 pub mod RoomSteps
+pub mod KeptRuns
 pub mod Widened

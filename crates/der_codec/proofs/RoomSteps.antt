@@ -16,7 +16,7 @@ use Rattle.der_model.specs.States as states
 use Rattle.der_model.specs.States.{State, AwaitsLength, next_number}
 use Rattle.der_model.specs.Structures as structures
 use Rattle.der_model.specs.Structures.{structure}
-use Rattle.der_codec.specs.Checking.{HasFedDer, KeepsRead, open_count}
+use Rattle.der_codec.specs.Checking.{KeepsRead, open_count}
 use Rattle.der_codec.specs.Decoding.{Reads, HasReadParts, IsOpenState, IsRefusedAs, IsBelowEnd, IsSettled, BeginsContents, end_of_levels}
 use Rattle.der_codec.specs.KeptPieces.{Shows, KeepsShown, PiecesGoOn, HoldsLeafAt, GoOnByLeaf, GoesOnByLast, EndsLeaf, around_of, begun_pieces}
 use Rattle.der_codec.specs.Levels.{IsSpot, AreLevels, inwards, rest_of}
@@ -193,8 +193,8 @@ value_end_enough T c e bytes r t shows closes h =
 
 -- ---- components of the usual form
 
-pub begun_enough : (T : Tables) (c : DerChecker) (b : Begun) (n : ℕ) (behind piece bytes : List ℕ) → HasFedDer c T bytes → StandsFirst (der_message T) c.decoder bytes b n behind piece → HasEnough c T (bytes ++ piece) → HoldBegun (der_message T) b.around c.pieces
-begun_enough T c b n behind piece bytes g s h = by c.pieces refl
+pub begun_enough : (T : Tables) (c : DerChecker) (b : Begun) (n : ℕ) (behind piece bytes : List ℕ) → HasReadParts (der_message T) c.decoder bytes → KeepsShown (der_message T) c.decoder c.pieces bytes → StandsFirst (der_message T) c.decoder bytes b n behind piece → HasEnough c T (bytes ++ piece) → HoldBegun (der_message T) b.around c.pieces
+begun_enough T c b n behind piece bytes read shows s h = by c.pieces refl
   where
     m : DerMessage ℕ
     m = der_message T
@@ -212,7 +212,7 @@ begun_enough T c b n behind piece bytes g s h = by c.pieces refl
     begun = s.begun
 
     r : Reads m xs (due.Tag begun.tag_step) d.start d.place bytes
-    r = subst (λ z. Reads m xs z d.start d.place bytes) begun.due_is g.reading.read
+    r = subst (λ z. Reads m xs z d.start d.place bytes) begun.due_is read
 
     less : HasEnough c T (bytes ++ s.first ∷ [])
     less = enough_less T c (bytes ++ s.first ∷ []) (n ∷ behind) (bytes ++ piece) (behind_is bytes piece (s.first ∷ []) (n ∷ behind) s.piece_is) h
@@ -222,7 +222,7 @@ begun_enough T c b n behind piece bytes g s h = by c.pieces refl
         let e = due.Length b.constructed b.spot begun.step in
         let ends = begun.end_is in
         let fits = begun.fits in
-        adds_enough T c xs (b.around ∷ ys) (due.Tag begun.tag_step) e d.start d.place (d.place + 1) (d.place + 1) bytes (bytes ++ s.first ∷ []) (begun_pieces m begun.read.state) r begun.read less (subst (λ z. Shows m xs z d.start d.place c.pieces bytes) begun.due_is g.reading.shows)
+        adds_enough T c xs (b.around ∷ ys) (due.Tag begun.tag_step) e d.start d.place (d.place + 1) (d.place + 1) bytes (bytes ++ s.first ∷ []) (begun_pieces m begun.read.state) r begun.read less (subst (λ z. Shows m xs z d.start d.place c.pieces bytes) begun.due_is shows)
         (tag_adds m xs (b.around ∷ ys) begun.tag_step e d.start d.place (d.place + 1) (d.place + 1) bytes s.first r begun.below (omega (arith, ends, fits)) tt begun.read)
 
     by : (o : Option Region) → c.pieces ≡ o → HoldBegun m b.around o
@@ -230,9 +230,9 @@ begun_enough T c b n behind piece bytes g s h = by c.pieces refl
     by (Some region) e = λ edges are. subst (HoldsMore region) (sym (begun_shows m b.around ys b.constructed b.spot begun.step edges are begun.read.state begun.read.is_open)) (subst (λ z. HoldMore z (begun_pieces m begun.read.state)) e all)
 
 -- with the leaf that is passed
-pub leaf_enough : (T : Tables) (c : DerChecker) (b : Begun) (n : ℕ) (behind piece bytes contents : List ℕ) (leaf : Leaf) → HasFedDer c T bytes → StandsFirst (der_message T) c.decoder bytes b n behind piece → b.constructed ≡ false → contents ≡ take n behind → n ≤ length behind
+pub leaf_enough : (T : Tables) (c : DerChecker) (b : Begun) (n : ℕ) (behind piece bytes contents : List ℕ) (leaf : Leaf) → HasReadParts (der_message T) c.decoder bytes → KeepsShown (der_message T) c.decoder c.pieces bytes → StandsFirst (der_message T) c.decoder bytes b n behind piece → b.constructed ≡ false → contents ≡ take n behind → n ≤ length behind
     → 0 < length c.decoder.levels.items → HoldsLeafAt (der_message T) b.spot contents leaf → HasEnough c T (bytes ++ piece) → HoldLeafWithin (der_message T) b.around leaf c.pieces
-leaf_enough T c b n behind piece bytes contents leaf g s primitive is within some at h = by c.pieces refl
+leaf_enough T c b n behind piece bytes contents leaf read shows s primitive is within some at h = by c.pieces refl
   where
     m : DerMessage ℕ
     m = der_message T
@@ -255,7 +255,7 @@ leaf_enough T c b n behind piece bytes contents leaf g s primitive is within som
         let more = begin_each edges ++ Holds leaf ∷ end_each edges in
         let kept : Region = record region { pieces = region.pieces ++ more } in
         let goes : GoesOnByLast m b.around b.spot contents c.pieces (Some kept) = (leaf, at, subst (λ z. GoOnByLeaf m b.around leaf z (Some kept)) (sym e) (edges, are, refl)) in
-        let both = passed T c new b n behind piece bytes contents (Some kept) g s primitive is within (λ of there. holds m (structure m of) contents leaf (at of there)) goes (set_inwards d.levels.items b.around some) refl refl (fresh_tag, refl, refl) refl in
+        let both = passed T c new b n behind piece bytes contents (Some kept) read shows s primitive is within (λ of there. holds m (structure m of) contents leaf (at of there)) goes (set_inwards d.levels.items b.around some) refl refl (fresh_tag, refl, refl) refl in
         let few = shown_enough T c (inwards new.levels.items) new.due new.start new.place (bytes ++ front) kept both.0 less both.1 in
         let same : h.keeping.region ≡ region = (let twice = sym h.keeping.is ∙ e in cc) in
         let n = subst (λ (z : Region). c.room.nodes ≤ z.node_room) same h.keeping.reserved.nodes in

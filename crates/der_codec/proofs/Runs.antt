@@ -37,11 +37,11 @@ use Rattle.der_codec.proofs.UsualSteps.{none_taken}
 
 -- ---- where no identifier octet has come
 
-fresh_is : (d : Due) → IsFresh d → (step : TagStep) × (d ≡ due.Tag step) × tags.HasTakenTag step []
+pub fresh_is : (d : Due) → IsFresh d → (step : TagStep) × (d ≡ due.Tag step) × tags.HasTakenTag step []
 fresh_is (due.Tag step) fresh = (step, refl, subst (λ z. tags.HasTakenTagIn z step.first step.high []) (sym fresh) refl)
 fresh_is d fresh = absurd fresh
 
-fresh_start : (m : DerMessage ℕ) (xs : List Level) (d : Due) (start place : ℕ) (bytes : List ℕ) → IsFresh d → Reads m xs d start place bytes → start ≡ place
+pub fresh_start : (m : DerMessage ℕ) (xs : List Level) (d : Due) (start place : ℕ) (bytes : List ℕ) → IsFresh d → Reads m xs d start place bytes → start ≡ place
 fresh_start m xs (due.Tag step) start place bytes fresh r =
     let none = ap length (taken_none step.come step.first step.high r.rest fresh r.is_begun) in
     let p = r.place_is in
@@ -49,14 +49,14 @@ fresh_start m xs (due.Tag step) start place bytes fresh r =
     omega arith
 fresh_start m xs d start place bytes fresh r = absurd fresh
 
-one_identifier : (m : DerMessage ℕ) (xs : List Level) (d : Due) (start place : ℕ) (bytes : List ℕ) (o : ℕ) (id : ids.Identifier) (r : Reads m xs d start place bytes) → IsFresh d → IsOneOctet o id → HasIdentifier d r.rest o id
+pub one_identifier : (m : DerMessage ℕ) (xs : List Level) (d : Due) (start place : ℕ) (bytes : List ℕ) (o : ℕ) (id : ids.Identifier) (r : Reads m xs d start place bytes) → IsFresh d → IsOneOctet o id → HasIdentifier d r.rest o id
 one_identifier m xs (due.Tag step) start place bytes o id r fresh one =
     (one.0, ap (λ z. z ++ o ∷ []) (taken_none step.come step.first step.high r.rest fresh r.is_begun) ∙ one.1)
 one_identifier m xs d start place bytes o id r fresh one = absurd fresh
 
 -- ---- a run begins
 
-first_rest : (xs : List Level) (x : Level) → Some x ≡ first_of xs → x ∷ rest_of xs ≡ xs
+pub first_rest : (xs : List Level) (x : Level) → Some x ≡ first_of xs → x ∷ rest_of xs ≡ xs
 first_rest [] x e = absurd cc
 first_rest (y ∷ ys) x e = (let same : x ≡ y = cc in ap (λ z. z ∷ ys) same)
 
@@ -78,7 +78,7 @@ run_some (y ∷ ys) x first = omega arith
 
 -- ---- a component begins
 
-begun : (m : DerMessage ℕ) (old : Decoder) (run : Run) (around : Level) (bytes : List ℕ) (o number : ℕ) (id : ids.Identifier) (spot : Spot) (step : LengthStep) → RunReads m old run bytes → IsFresh old.due → IsOneOctet o id → run.place < run.level.end
+pub begun : (m : DerMessage ℕ) (old : Decoder) (run : Run) (around : Level) (bytes : List ℕ) (o number : ℕ) (id : ids.Identifier) (spot : Spot) (step : LengthStep) → RunReads m old run bytes → IsFresh old.due → IsOneOctet o id → run.place < run.level.end
     → ((l : states.DerLevel ℕ) → IsLevel m.forms run.level l → IsFound m.forms (found.Begins number spot) (level_answer m l id.constructed (tag_view id))) → IsAdvanced run.level number around → lengths.HasTakenLength step [] → (c : Bool) → id.constructed ≡ c
     → Reads m (around ∷ rest_of (inwards old.levels.items)) (due.Length c spot step) (run.place + 1) (run.place + 1) (bytes ++ o ∷ [])
 begun m old run around bytes o number id spot step r fresh one low h advanced none c is =

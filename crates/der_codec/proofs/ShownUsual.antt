@@ -66,7 +66,7 @@ leaf_taken m d new b bytes contents o n fresh h primitive size holds levels plac
 -- ---- the pieces that are kept
 
 -- the same, told otherwise
-shows_as : (m : DerMessage ℕ) (xs ys : List Level) (d e : Due) (start start2 place place2 : ℕ) (kept : Option Region) (bytes : List ℕ) → xs ≡ ys → d ≡ e → start ≡ start2 → place ≡ place2 → Shows m ys e start2 place2 kept bytes → Shows m xs d start place kept bytes
+pub shows_as : (m : DerMessage ℕ) (xs ys : List Level) (d e : Due) (start start2 place place2 : ℕ) (kept : Option Region) (bytes : List ℕ) → xs ≡ ys → d ≡ e → start ≡ start2 → place ≡ place2 → Shows m ys e start2 place2 kept bytes → Shows m xs d start place kept bytes
 shows_as m xs ys d e start start2 place place2 kept bytes a b c f s =
     subst (λ z. Shows m z d start place kept bytes) (sym a) (subst (λ z. Shows m ys z start place kept bytes) (sym b) (subst (λ z. Shows m ys e z place kept bytes) (sym c) (subst (λ z. Shows m ys e start2 z kept bytes) (sym f) s)))
 

@@ -99,10 +99,10 @@ abbrev pub AwaitsTag : Decoder → Type 0
 AwaitsTag d = (step : TagStep) × (d.due ≡ due.Tag step) × tags.HasTakenTag step []
 
 -- a constructed value was entered
-pub entered : (T : Tables) (old : DerChecker) (new : Decoder) (b : Begun) (n : ℕ) (behind piece bytes : List ℕ) (kept : Option Region) → HasFedDer old T bytes → StandsFirst (der_message T) old.decoder bytes b n behind piece → b.constructed ≡ true
+pub entered : (T : Tables) (old : DerChecker) (new : Decoder) (b : Begun) (n : ℕ) (behind piece bytes : List ℕ) (kept : Option Region) → HasReadParts (der_message T) old.decoder bytes → KeepsShown (der_message T) old.decoder old.pieces bytes → StandsFirst (der_message T) old.decoder bytes b n behind piece → b.constructed ≡ true
     → GoOnByBegun (der_message T) b.around old.pieces kept → inwards new.levels.items ≡ level_at b.spot b.end ∷ b.around ∷ rest_of (inwards old.decoder.levels.items) → new.place ≡ old.decoder.place + 2 → new.start ≡ old.decoder.place + 2 → AwaitsTag new → IsFresh new.due
     → HasReadParts (der_message T) new (bytes ++ take 2 piece) × KeepsShown (der_message T) new kept (bytes ++ take 2 piece)
-entered T old new b n behind piece bytes kept g h constructed goes levels placed started (fresh, due_is, none) clean =
+entered T old new b n behind piece bytes kept r shows h constructed goes levels placed started (fresh, due_is, none) clean =
     let m = der_message T in
     let d = old.decoder in
     let ys = b.around ∷ rest_of (inwards d.levels.items) in
@@ -111,14 +111,14 @@ entered T old new b n behind piece bytes kept g h constructed goes levels placed
     let awaits : Awaits new b.constructed b.spot (d.place + 2) n ys = subst (λ z. Awaits new z b.spot (d.place + 2) n ys) (sym constructed) (there, fresh, due_is, none) in
     subst (λ z. HasReadParts m new (bytes ++ z) × KeepsShown m new kept (bytes ++ z)) (sym front) (
       header_read m d new b bytes h.first n h.begun placed started awaits,
-      entered_shown m d new b old.pieces kept bytes h.first n fresh g.reading.read g.reading.shows h.begun goes levels placed started due_is clean,
+      entered_shown m d new b old.pieces kept bytes h.first n fresh r shows h.begun goes levels placed started due_is clean,
     )
 
 -- a leaf was passed
-pub passed : (T : Tables) (old : DerChecker) (new : Decoder) (b : Begun) (n : ℕ) (behind piece bytes contents : List ℕ) (kept : Option Region) → HasFedDer old T bytes → StandsFirst (der_message T) old.decoder bytes b n behind piece → b.constructed ≡ false
+pub passed : (T : Tables) (old : DerChecker) (new : Decoder) (b : Begun) (n : ℕ) (behind piece bytes contents : List ℕ) (kept : Option Region) → HasReadParts (der_message T) old.decoder bytes → KeepsShown (der_message T) old.decoder old.pieces bytes → StandsFirst (der_message T) old.decoder bytes b n behind piece → b.constructed ≡ false
     → contents ≡ take n behind → n ≤ length behind → HoldsContents (der_message T) b.spot contents → GoesOnByLast (der_message T) b.around b.spot contents old.pieces kept → inwards new.levels.items ≡ b.around ∷ rest_of (inwards old.decoder.levels.items)
     → new.place ≡ b.end → new.start ≡ b.end → AwaitsTag new → IsFresh new.due → HasReadParts (der_message T) new (bytes ++ take (2 + n) piece) × KeepsShown (der_message T) new kept (bytes ++ take (2 + n) piece)
-passed T old new b n behind piece bytes contents kept g h primitive is within held (leaf, at, goes) levels placed started (fresh, due_is, none) clean =
+passed T old new b n behind piece bytes contents kept r shows h primitive is within held (leaf, at, goes) levels placed started (fresh, due_is, none) clean =
     let m = der_message T in
     let d = old.decoder in
     let size : length contents ≡ n = ap length is ∙ length-take-le n behind within in
@@ -126,5 +126,5 @@ passed T old new b n behind piece bytes contents kept g h primitive is within he
     let read = leaf_taken m d new b bytes contents h.first n fresh h.begun primitive size held levels placed started due_is none in
     subst (λ z. HasReadParts m new (bytes ++ z) × KeepsShown m new kept (bytes ++ z)) (sym front) (
       read,
-      leaf_shown m d new b old.pieces kept bytes contents h.first n leaf g.reading.read g.reading.shows h.begun primitive size at goes levels clean read,
+      leaf_shown m d new b old.pieces kept bytes contents h.first n leaf r shows h.begun primitive size at goes levels clean read,
     )

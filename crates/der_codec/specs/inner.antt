@@ -2,6 +2,7 @@
 pub mod PlainOctets
 pub mod Entering
 pub mod Runs
+pub mod KeptRuns
 pub mod Nesting
 pub mod OpenNames
 pub mod Elements

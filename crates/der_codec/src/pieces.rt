@@ -1,5 +1,5 @@
 //! The pieces of an instance, where they are kept as its parts come.
-ghost use Rattle.std.specs.Prelude.{◌∷◌, [], ℕ, List, IsOk, OnOk};
+ghost use Rattle.std.specs.Prelude.{◌≡◌, ◌∷◌, [], ℕ, List, IsOk, OnOk, Some};
 ghost use Rattle.data_types.specs.LeafAnswers.{leaf_of};
 ghost use Rattle.data_types.specs.Value.{Holds};
 ghost use Rattle.message_model.specs.Tables.{types_of};
@@ -8,7 +8,7 @@ ghost use Rattle.der_model.specs.NestedPieces.{elements_around};
 ghost use Rattle.der_model.specs.ShownPieces.{begin_each, end_each, elements_ended};
 ghost use Rattle.der_model.specs.States as states;
 ghost use Rattle.der_codec.specs.KeptPieces.{PiecesGoOn, GoOnByBegun, GoOnByLeaf, AreOpen, IsLastSpot, StaysAlone};
-ghost use Rattle.der_codec.specs.Levels.{AreLevels, inwards};
+ghost use Rattle.der_codec.specs.Levels.{AreLevels, inwards, first_of};
 ghost use Rattle.der_codec.specs.Reserved.{GrowsRoom, HoldMore, HoldBegun, HoldLeafWithin};
 
 use crate::decoder::Decoder;
@@ -55,6 +55,26 @@ pub(crate) fn end(
     match pieces {
         None => Ok(()),
         Some(builder) => end_component(builder, model, decoder.innermost()),
+    }
+}
+
+/// The elements end that end with the last component of a value, which is the innermost one.
+#[inline(always)]
+pub(crate) fn end_last(
+    pieces: &mut Option<Builder>,
+    model: &Model,
+    around: Level,
+) -> Result<(), AllocError>
+    requires { (xs : List Level) × (ls : List (states.DerLevel ℕ)) × (Some around ≡ first_of xs) × AreLevels (types_of model.now) xs ls × AreOpen pieces.old (elements_around (der_message model.now) ls) }
+    ensures ended { (xs : List Level) (ls : List (states.DerLevel ℕ)) → Some around ≡ first_of xs → AreLevels (types_of model.now) xs ls → AreOpen pieces.old (elements_around (der_message model.now) ls)
+        → OnOk result (PiecesGoOn pieces.old pieces.new (end_each (elements_ended (der_message model.now) ls))) }
+    ensures room { GrowsRoom pieces.old pieces.new }
+    ensures alone { StaysAlone pieces.old pieces.new }
+    ensures within { (xs : List Level) (ls : List (states.DerLevel ℕ)) → Some around ≡ first_of xs → AreLevels (types_of model.now) xs ls → HoldMore pieces.old (end_each (elements_ended (der_message model.now) ls)) → IsOk result }
+{
+    match pieces {
+        None => Ok(()),
+        Some(builder) => end_component(builder, model, Some(around)),
     }
 }
 

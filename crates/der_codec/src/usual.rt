@@ -1,5 +1,5 @@
 //! Components of the usual form, taken at once: a header of one identifier octet and one length octet, and with it a leaf.
-ghost use Rattle.std.specs.Prelude.{◌≡◌, ◌+◌, ◌<◌, ◌≤◌, ◌^◌, ◌++◌, ◌∷◌, [], ℕ, List, IfSome, IfNone, Some, true, false, length, take};
+ghost use Rattle.std.specs.Prelude.{◌≡◌, ◌+◌, ◌<◌, ◌≤◌, ◌^◌, ◌++◌, ◌∷◌, [], ℕ, List, IfSome, IfNone, Some, true, false, length, take, vec_capacity};
 ghost use Rattle.message_model.specs.Tables.{Tables, types_of};
 ghost use Rattle.der_model.specs.DerMessage.{der_message};
 ghost use Rattle.der_codec.specs.Checked.{CheckTypes};
@@ -50,7 +50,7 @@ impl Decoder {
 
     /// The run that begins here, where identifier octets are due, none has come, and a value is open.
     #[inline(always)]
-    fn begun_run(&self) -> Option<Run>
+    pub(crate) fn begun_run(&self) -> Option<Run>
         ensures fresh { IfSome result (λ _. IsFresh self.now.due) }
         ensures level { IfSome result (λ run. Some run.level ≡ first_of (inwards self.now.levels.items)) }
         ensures place { IfSome result (λ run. run.place ≡ self.now.place) }
@@ -99,12 +99,16 @@ impl Decoder {
 
     /// Puts the level and the place of the run back, where it has taken octets. It answers how many they are.
     #[inline(always)]
-    fn leave(&mut self, run: Run, taken: usize) -> usize
+    pub(crate) fn leave(&mut self, run: Run, taken: usize) -> usize
         requires { 0 < length self.old.levels.items }
         ensures taken { result ≡ taken }
         ensures read { 0 < taken → (bytes : List ℕ) (model : Tables) → RunReads (der_message model) self.old run bytes → HasReadParts (der_message model) self.new bytes }
         ensures none { taken ≡ 0 → self.new ≡ self.old }
         ensures due { self.new.due ≡ self.old.due }
+        ensures levels { 0 < taken → inwards self.new.levels.items ≡ run.level ∷ rest_of (inwards self.old.levels.items) }
+        ensures place { 0 < taken → self.new.place ≡ run.place }
+        ensures start { 0 < taken → self.new.start ≡ run.place }
+        ensures room { vec_capacity self.old.levels ≤ vec_capacity self.new.levels }
     {
         if taken > 0 {
             self.set_innermost(run.level);
@@ -389,7 +393,7 @@ impl Decoder {
     /// Ends the innermost value, which ends at this place, where it breaks no rule so, and another is round it. It answers
     /// whether it has.
     #[inline(always)]
-    fn end_inner(&mut self, run: &mut Run, model: &Model) -> bool
+    pub(crate) fn end_inner(&mut self, run: &mut Run, model: &Model) -> bool
         requires some { 0 < length self.old.levels.items }
         requires fresh { IsFresh self.old.due }
         requires here { run.old.level.end ≡ run.old.place }
@@ -398,6 +402,10 @@ impl Decoder {
         ensures due { self.new.due ≡ self.old.due }
         ensures open { 0 < length self.new.levels.items }
         ensures less { result ≡ true → length self.new.levels.items < length self.old.levels.items }
+        ensures one { result ≡ true → length self.new.levels.items + 1 ≡ length self.old.levels.items }
+        ensures kept { result ≡ false → self.new ≡ self.old }
+        ensures stays { result ≡ false → run.new ≡ run.old }
+        ensures room { vec_capacity self.old.levels ≤ vec_capacity self.new.levels }
     {
         let count = self.levels.len();
         if count < 2 {
@@ -422,6 +430,7 @@ impl Decoder {
         ensures place { run.new.place ≡ run.old.place }
         ensures due { self.new.due ≡ self.old.due }
         ensures less { length self.new.levels.items + 1 ≡ length self.old.levels.items }
+        ensures room { vec_capacity self.old.levels ≤ vec_capacity self.new.levels }
     {
         let _ = self.levels.pop();
         if let Some(level) = self.innermost() {

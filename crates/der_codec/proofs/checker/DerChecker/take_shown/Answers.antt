@@ -1,94 +1,71 @@
-use Rattle.std.proofs.Common.{◌++◌, ◌∙◌, length, take, sym, ap, subst, arith, append-nil, refl, drop, append_assoc}
-use Rattle.std.proofs.lemmas.List.{length-drop}
-use Rattle.der_codec.specs.Checking.{HasFedDer}
-use Rattle.der_codec.proofs.UsualFed.{front_room, run_stopped, run_ends}
-use Rattle.der_codec.proofs.UsualSteps.{run_more}
-use Rattle.der_codec.proofs.Fed.{joined}
-use Rattle.der_codec.proofs.Keeping.{enough_then, err_as}
+use Rattle.std.proofs.Common.{◌++◌, take, drop, refl, sym, subst, arith, ◌∙◌}
+use Rattle.der_codec.specs.Decoding.{IsFresh}
+use Rattle.der_codec.specs.OpenLeaves.{HoldsNothing}
+use Rattle.der_codec.proofs.Fed.{taken_front, stopped_front, joined}
+use Rattle.der_codec.proofs.Keeping.{enough_less, enough_then, behind_is, err_as, not_ok}
+use Rattle.der_codec.proofs.KeptRuns.{keeps_begin, fresh_holds}
+use Rattle.der_codec.proofs.Runs.{run_low, run_some}
+use Rattle.der_codec.proofs.UsualFed.{fed_as, none_front_as, some_taken}
 use Rattle.der_codec.proofs.checker.DerChecker.take_shown.Goals as goal
 
-pub loop-count-init : goal.loop-count-init
-loop-count-init c = (
-  c.requires.checks,
-  λ bytes h. subst (HasFedDer c.args.self.now c.args.model.now) (sym (append-nil bytes)) h,
-  omega arith,
-  λ none. refl,
-  λ k. k,
-  refl,
-  λ none. none,
-)
-
-pub split_at-requires : goal.split_at-requires
-split_at-requires c = c.loop-count.invariant.2
-
-pub show_next-requires-clause-room : goal.show_next-requires-clause-room
-show_next-requires-clause-room c =
-    let i = c.loop-count.invariant in
+pub run_kept-requires-clause-given : goal.run_kept-requires-clause-given
+run_kept-requires-clause-given c =
+    let h = c.in-Some.ensures in
     let g = c.requires.given in
-    front_room c.args.model.now c.args.self.now c.loop-count.self g.0 c.args.piece.now c.split_at.result.1.now c.loop-count.taken c.split_at.ensures.back g.1 (i.1 g.0 g.1) i.2 c.requires.room
-
-pub show_next-requires-clause-checks : goal.show_next-requires-clause-checks
-show_next-requires-clause-checks c = c.loop-count.invariant.0
-
-pub show_next-requires-clause-given : goal.show_next-requires-clause-given
-show_next-requires-clause-given c = (let g = c.requires.given in (g.0 ++ take c.loop-count.taken c.args.piece.now, c.loop-count.invariant.1 g.0 g.1))
-
-pub returns-in-Err-clause-front : goal.returns-in-Err-clause-front
-returns-in-Err-clause-front c =
-    let i = c.loop-count.invariant in
-    run_stopped c.args.model.now c.args.self.now c.loop-count.self c.show_next.new.self c.args.piece.now c.split_at.result.1.now c.loop-count.taken c.in-Err.stop c.split_at.ensures.back i.1 c.in-Err.ensures.front
-
-pub returns-then-count-eq0-clause-front : goal.returns-then-count-eq0-clause-front
-returns-then-count-eq0-clause-front c =
-    let i = c.loop-count.invariant in
-    run_ends c.args.model.now c.args.self.now c.loop-count.self c.show_next.new.self c.args.piece.now c.split_at.result.1.now c.loop-count.taken c.in-Ok.count c.if-count-eq0.true i.2 i.1 c.in-Ok.ensures.front
-
-pub returns-then-count-eq0-clause-unchanged : goal.returns-then-count-eq0-clause-unchanged
-returns-then-count-eq0-clause-unchanged c = λ none. c.in-Ok.ensures.unchanged c.if-count-eq0.true ∙ c.loop-count.invariant.3 none
-
-pub loop-count-smaller : goal.loop-count-smaller
-loop-count-smaller c =
-    let some = c.if-count-eq0.false in
-    let within = c.in-Ok.ensures.front.within in
-    let behind = ap length c.split_at.ensures.back ∙ length-drop c.loop-count.taken c.args.piece.now in
-    let few = c.loop-count.invariant.2 in
-    omega (arith, some, within, behind, few)
-
-pub loop-count-preserved : goal.loop-count-preserved
-loop-count-preserved c =
-    let piece = c.args.piece.now in
-    let taken = c.loop-count.taken in
-    let count = c.in-Ok.count in
-    let some = c.if-count-eq0.false in
-    let within = c.in-Ok.ensures.front.within in
-    let behind = ap length c.split_at.ensures.back ∙ length-drop taken piece in
-    let i = c.loop-count.invariant in
-    let few = i.2 in (
-      c.in-Ok.ensures.checks,
-      λ bytes h. subst (HasFedDer c.show_next.new.self c.args.model.now) (run_more bytes piece c.split_at.result.1.now taken count c.split_at.ensures.back) (c.in-Ok.ensures.front.ok (bytes ++ take taken piece) (i.1 bytes h)),
-      omega (arith, within, behind, few),
-      λ none. absurd (omega (arith, none, some)),
-      λ k. c.in-Ok.ensures.keeps (i.4 k),
-      c.in-Ok.ensures.same ∙ i.5,
-      λ none. c.in-Ok.ensures.alone (i.6 none),
-    )
-
-pub returns-in-Err-clause-keeps : goal.returns-in-Err-clause-keeps
-returns-in-Err-clause-keeps c = λ k. c.in-Err.ensures.keeps (c.loop-count.invariant.4 k)
-
-pub returns-in-Err-clause-same : goal.returns-in-Err-clause-same
-returns-in-Err-clause-same c = c.in-Err.ensures.same ∙ c.loop-count.invariant.5
-
-pub returns-then-count-eq0-clause-keeps : goal.returns-then-count-eq0-clause-keeps
-returns-then-count-eq0-clause-keeps c = λ k. c.in-Ok.ensures.keeps (c.loop-count.invariant.4 k)
-
-pub returns-then-count-eq0-clause-same : goal.returns-then-count-eq0-clause-same
-returns-then-count-eq0-clause-same c = c.in-Ok.ensures.same ∙ c.loop-count.invariant.5
+    let s = c.args.self.now in
+    let run = c.in-Some.begun in
+    (g.0, keeps_begin c.args.model.now s run g.0 (run_some s.decoder.levels.items run.level h.level) h.fresh h.level h.place g.1.reading.read g.1.reading.shows)
 
 pub returns-in-Err-clause-memory : goal.returns-in-Err-clause-memory
-returns-in-Err-clause-memory c = λ bytes h e is.
-    let i = c.loop-count.invariant in
+returns-in-Err-clause-memory c = λ bytes f e is.
+    let h = c.in-Some.ensures in
+    let s = c.args.self.now in
+    let run = c.in-Some.begun in
+    not_ok (c.in-Err.ensures.memory bytes (keeps_begin c.args.model.now s run bytes (run_some s.decoder.levels.items run.level h.level) h.fresh h.level h.place f.reading.read f.reading.shows) e)
+
+pub end_here-requires-clause-given : goal.end_here-requires-clause-given
+end_here-requires-clause-given c =
+    let h = c.in-Some.ensures in
+    let s = c.args.self.now in
+    let run = c.in-Some.begun in
+    let g = c.requires.given in
+    let both = c.in-Ok.ensures.ok g.0 (keeps_begin c.args.model.now s run g.0 (run_some s.decoder.levels.items run.level h.level) h.fresh h.level h.place g.1.reading.read g.1.reading.shows) (some_taken c.in-Ok.taken c.if-taken-eq0.false) in
+    (g.0 ++ take c.in-Ok.taken c.args.piece.now, both.0, both.1)
+
+pub returns-in-Ok-end_here-clause-front : goal.returns-in-Ok-end_here-clause-front
+returns-in-Ok-end_here-clause-front c =
+    let T = c.args.model.now in
+    let h = c.in-Some.ensures in
+    let s = c.args.self.now in
+    let run = c.in-Some.begun in
     let piece = c.args.piece.now in
-    let taken = c.loop-count.taken in
-    let all = ap (λ z. bytes ++ z) (joined taken piece) ∙ (sym (append_assoc bytes (take taken piece) (drop taken piece)) ∙ ap (λ z. (bytes ++ take taken piece) ++ z) (sym c.split_at.ensures.back)) in
-    c.in-Err.ensures.memory (bytes ++ take taken piece) (i.1 bytes h) (enough_then c.args.model.now c.args.self.now c.loop-count.self ((bytes ++ take taken piece) ++ c.split_at.result.1.now) (bytes ++ piece) all i.4 i.5 e) (err_as _ _ is)
+    let n = c.in-Ok.taken in
+    taken_front T s c.end_here.new.self piece (take n piece) n refl c.in-Ok.ensures.within c.requires.room (c.in-Ok-end_here.ensures.sound ∙ c.in-Ok.ensures.stays.sound) (λ bytes f.
+    let both = c.in-Ok.ensures.ok bytes (keeps_begin T s run bytes (run_some s.decoder.levels.items run.level h.level) h.fresh h.level h.place f.reading.read f.reading.shows) (some_taken n c.if-taken-eq0.false) in
+    c.in-Ok-end_here.ensures.ok (bytes ++ take n piece) both.0 both.1)
+
+pub returns-in-Err-end_here-clause-front : goal.returns-in-Err-end_here-clause-front
+returns-in-Err-end_here-clause-front c =
+    let T = c.args.model.now in
+    let h = c.in-Some.ensures in
+    let s = c.args.self.now in
+    let run = c.in-Some.begun in
+    let piece = c.args.piece.now in
+    let n = c.in-Ok.taken in
+    stopped_front T s c.end_here.new.self piece (take n piece) (drop n piece) c.in-Err-end_here.stop (joined n piece) (λ bytes f.
+    let both = c.in-Ok.ensures.ok bytes (keeps_begin T s run bytes (run_some s.decoder.levels.items run.level h.level) h.fresh h.level h.place f.reading.read f.reading.shows) (some_taken n c.if-taken-eq0.false) in
+    c.in-Err-end_here.ensures.err (bytes ++ take n piece) both.0)
+
+pub returns-in-Err-end_here-clause-memory : goal.returns-in-Err-end_here-clause-memory
+returns-in-Err-end_here-clause-memory c = λ bytes f e is.
+    let T = c.args.model.now in
+    let h = c.in-Some.ensures in
+    let s = c.args.self.now in
+    let run = c.in-Some.begun in
+    let piece = c.args.piece.now in
+    let n = c.in-Ok.taken in
+    let front = bytes ++ take n piece in
+    let stays = c.in-Ok.ensures.stays in
+    let both = c.in-Ok.ensures.ok bytes (keeps_begin T s run bytes (run_some s.decoder.levels.items run.level h.level) h.fresh h.level h.place f.reading.read f.reading.shows) (some_taken n c.if-taken-eq0.false) in
+    c.in-Err-end_here.ensures.memory front both.0 both.1
+    (enough_then T s c.run_kept.new.self front front refl stays.keeps stays.room (enough_less T s front (drop n piece) (bytes ++ piece) (behind_is bytes piece (take n piece) (drop n piece) (joined n piece)) e)) (err_as _ _ is)
