@@ -98,7 +98,7 @@ struct Row {
 }
 
 // What a piece of four bytes has just room for, and what it has no room for.
-static ROWS: [Row; 5] = [
+static ROWS: [Row; 7] = [
     Row {
         edge: NOTE,
         whole: 1_234_567,
@@ -124,6 +124,26 @@ static ROWS: [Row; 5] = [
         whole: 0x400_0001,
         scale: 0,
         place: 0x2000_0000,
+    },
+    Row {
+        edge: Edge {
+            slot: 0,
+            target: 0,
+            parent: 2048,
+        },
+        whole: 0x1FFF_FFFF,
+        scale: 2,
+        place: 0x1000_0000,
+    },
+    Row {
+        edge: Edge {
+            slot: 3,
+            target: 2047,
+            parent: 1,
+        },
+        whole: 0x2000_0001,
+        scale: 2,
+        place: 1,
     },
     Row {
         edge: Edge {
