@@ -7,7 +7,7 @@ use Rattle.inst_pool.specs.inner.Texts.{HasOneMore}
 use Rattle.inst_pool.specs.declared.content.Content.{Content}
 use Rattle.inst_pool.specs.declared.content.Content.TheVariants as long
 use Rattle.inst_pool.specs.declared.node.Kind.{Kind}
-use Rattle.inst_pool.specs.declared.node.Kind.TheVariants.{Open, Bytes, Number, Flag, Code, Close, Apart}
+use Rattle.inst_pool.specs.declared.node.Kind.TheVariants.{Open, Bytes, Number, Flag, Code, Close, Amount, Apart}
 use Rattle.inst_pool.specs.declared.node.Node.{Node}
 use Rattle.inst_pool.specs.declared.piece.Edge.{Edge}
 use Rattle.inst_pool.specs.declared.others.Other.{Other}
@@ -54,6 +54,7 @@ module _ (texts : List Content) (others : List Other) (texts' : List Content) (o
   content_goes_on at Flag held h = refl
   content_goes_on at Code held h = refl
   content_goes_on at Close held h = refl
+  content_goes_on at Amount held h = refl
   content_goes_on at Apart held h = (g.has_others at h).1
 
   within_goes_on : (at : ℕ) (kind : Kind) (held : ℕ) → IsKindWithin texts others at kind held → IsKindWithin texts' others' at kind held
@@ -63,6 +64,7 @@ module _ (texts : List Content) (others : List Other) (texts' : List Content) (o
   within_goes_on at Flag held h = tt
   within_goes_on at Code held h = tt
   within_goes_on at Close held h = tt
+  within_goes_on at Amount held h = h
   within_goes_on at Apart held h = (g.has_others at h).0
 
   contents_append : (at end : ℕ) (nodes more : List Node) → end ≡ at + length nodes → AreNodesWithin texts others at nodes

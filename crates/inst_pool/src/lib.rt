@@ -8,11 +8,11 @@
 //! An element with a text of two bytes in it is three pieces, and wants two bytes beside them: behind `reserve(3, 2)`
 //! neither `begin` nor `leaf` nor `close` asks for memory.
 //!
-//! A region has a block of pieces, of eight bytes each, one of those that do not fit into eight, one of the bytes of
-//! leaves, one of the elements that are open, and blocks for the two numbers, written to only as far from either end as
-//! these are set. So an instance is walked and dropped without recursion, however deep its elements stand. No block ever
-//! has room for more than 2^48 items; more is answered by want of memory, and the instance is then what it was. Which
-//! pieces a message allows is no matter of this crate: it asks only that elements end in order.
+//! A region has a block of pieces, of four bytes each, one of the ends of texts, one of those pieces that do not fit into
+//! four bytes, one of the bytes of leaves, one of the elements that are open, and blocks for the two numbers, written to
+//! only as far from either end as these are set. So an instance is walked and dropped without recursion, however deep its
+//! elements stand. No block ever has room for more than 2^48 items; more is answered by want of memory, and the instance
+//! is then what it was. Which pieces a message allows is no matter of this crate: it asks only that elements end in order.
 #![tactic(auto)]
 
 mod blocks;

@@ -3,7 +3,7 @@ ghost use Rattle.std.specs.Prelude.{◌≡◌, ◌<◌, ◌≤◌, ◌^◌, ℕ,
 ghost use Rattle.lexical_core.specs.Decimals.{IsDecimal};
 ghost use Rattle.inst_pool.specs.Contents.{piece_in, IsContentInside};
 ghost use Rattle.inst_pool.specs.Pieces.{piece_of};
-ghost use Rattle.inst_pool.specs.inner.Nodes.{kind_of, kind_in, held_in, edge_in, decimal_in, content_of, IsNodeWithin};
+ghost use Rattle.inst_pool.specs.inner.Nodes.{kind_of, kind_in, held_in, edge_in, decimal_of, decimal_in, amount_in, content_of, IsNodeWithin};
 ghost use Rattle.inst_pool.specs.inner.Others.{AreBetween};
 ghost use Rattle.inst_pool.specs.inner.Texts.{HasOneMore};
 ghost use Rattle.inst_pool.specs.declared.others.Other.{Other};
@@ -30,6 +30,8 @@ pub(crate) enum Kind {
     Code,
     /// An element ends.
     Close,
+    /// A number with two digits behind the point.
+    Amount,
     /// Any other: it stands apart, and the number is a hint where.
     Apart,
 }
@@ -67,6 +69,7 @@ impl Node {
             3 => Kind::Flag,
             4 => Kind::Code,
             5 => Kind::Close,
+            6 => Kind::Amount,
             _ => Kind::Apart,
         }
     }
@@ -94,7 +97,8 @@ fn bits_of(kind: Kind) -> u32
         Kind::Flag => 3,
         Kind::Code => 4,
         Kind::Close => 5,
-        Kind::Apart => 6,
+        Kind::Amount => 6,
+        Kind::Apart => 7,
     }
 }
 
@@ -116,6 +120,21 @@ pub(crate) fn short_edge(edge: Edge) -> Option<u32>
         return Some(edge.slot + edge.target * 128 + edge.parent * 0x4_0000);
     }
     None
+}
+
+/// The whole part of a decimal without a sign and with scale 2, where it has 29 bits.
+#[inline(always)]
+fn short_amount(number: &Decimal) -> Option<u32>
+    ensures number { IfSome result (λ held. amount_in held ≡ number.now) }
+    ensures decimal { IfSome result (λ held. IsDecimal (amount_in held)) }
+    ensures fits { IfSome result (λ held. held < 2 ^ 29) }
+{
+    let whole = number.whole();
+    if whole < 0 || whole >= 0x2000_0000 || number.scale() != 2 {
+        return None;
+    }
+    let size = whole as u64;
+    Some(size as u32)
 }
 
 /// The number that tells a decimal without a sign, where 26 bits say its whole part and 3 its scale.
@@ -158,6 +177,9 @@ pub(crate) fn shortened(content: &Content, texts: &mut Texts) -> Option<Node>
             Some(Node::new(Kind::Bytes, number))
         }
         Content::Number(number) => {
+            if let Some(held) = short_amount(number) {
+                return Some(Node::new(Kind::Amount, held));
+            }
             let Some(held) = short_decimal(number) else {
                 return None;
             };
@@ -201,10 +223,11 @@ pub(crate) fn piece_of<'a>(
     match node.kind() {
         Kind::Open => Piece::Open(edge_of(held)),
         Kind::Bytes => Piece::Leaf(LeafRef::Bytes(texts.text(held as usize, bytes))),
-        Kind::Number => Piece::Leaf(LeafRef::Number(decimal_of(held))),
+        Kind::Number => Piece::Leaf(LeafRef::Number(decimal_of(held / 8, held % 8))),
         Kind::Flag => Piece::Leaf(LeafRef::Flag(held == 1)),
         Kind::Code => Piece::Leaf(LeafRef::Code(held)),
         Kind::Close => Piece::Close(edge_of(held)),
+        Kind::Amount => Piece::Leaf(LeafRef::Number(decimal_of(held, 2))),
         Kind::Apart => {
             let place = other_place(others, at, held as usize);
             held_piece(others[place].content, bytes)
@@ -224,13 +247,13 @@ fn edge_of(held: u32) -> Edge
     }
 }
 
-/// The decimal that a number tells.
+/// The decimal without a sign of this whole part and scale.
 #[inline(never)]
-fn decimal_of(held: u32) -> Decimal
-    requires { IsDecimal (decimal_in held) }
-    ensures { result ≡ decimal_in held }
+fn decimal_of(whole: u32, scale: u32) -> Decimal
+    requires { IsDecimal (decimal_of whole scale) }
+    ensures { result ≡ decimal_of whole scale }
 {
-    let Some(number) = Decimal::make((held / 8) as i64, (held % 8) as u8) else {
+    let Some(number) = Decimal::make(whole as i64, scale as u8) else {
         unreachable!()
     };
     number

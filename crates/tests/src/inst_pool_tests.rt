@@ -88,3 +88,150 @@ fn an_instance_is_walked_and_its_room_used_again(rt: HostRuntime) -> Result<(), 
     expect_note(&rt, &again);
     Ok(())
 }
+
+// The numbers of an element and of its leaves.
+struct Row {
+    edge: Edge,
+    whole: i64,
+    scale: u8,
+    place: u32,
+}
+
+// What a piece of four bytes has just room for, and what it has no room for.
+static ROWS: [Row; 7] = [
+    Row {
+        edge: NOTE,
+        whole: 1_234_567,
+        scale: 2,
+        place: 7,
+    },
+    Row {
+        edge: Edge {
+            slot: 127,
+            target: 2047,
+            parent: 2047,
+        },
+        whole: 0x3FF_FFFF,
+        scale: 7,
+        place: 0x1FFF_FFFF,
+    },
+    Row {
+        edge: Edge {
+            slot: 128,
+            target: 0,
+            parent: 0,
+        },
+        whole: 0x400_0001,
+        scale: 0,
+        place: 0x2000_0000,
+    },
+    Row {
+        edge: Edge {
+            slot: 0,
+            target: 0,
+            parent: 2048,
+        },
+        whole: 0x1FFF_FFFF,
+        scale: 2,
+        place: 0x1000_0000,
+    },
+    Row {
+        edge: Edge {
+            slot: 3,
+            target: 2047,
+            parent: 1,
+        },
+        whole: 0x2000_0001,
+        scale: 2,
+        place: 1,
+    },
+    Row {
+        edge: Edge {
+            slot: 0,
+            target: 2048,
+            parent: 0,
+        },
+        whole: -1,
+        scale: 0,
+        place: 0,
+    },
+    Row {
+        edge: Edge {
+            slot: 4_294_967_295,
+            target: 4_294_967_295,
+            parent: 4_294_967_295,
+        },
+        whole: 999_999_999_999_999_999,
+        scale: 18,
+        place: 4_294_967_295,
+    },
+];
+
+// Three elements with these numbers, each with a leaf, and one with an empty text, behind a text.
+fn add_row(builder: &mut Builder, row: &Row, number: &Decimal) -> Result<(), AllocError>
+    requires { builder.old.pieces ≡ [] }
+    ensures { OnOk result (open_in builder.new.pieces ≡ []) }
+{
+    builder.leaf_within(NOTE, &LeafRef::Bytes(b"ab".as_slice()))?;
+    builder.leaf_within(row.edge, &LeafRef::Number(*number))?;
+    builder.leaf_within(row.edge, &LeafRef::Code(row.place))?;
+    builder.leaf_within(row.edge, &LeafRef::Bytes(&[]))?;
+    Ok(())
+}
+
+// Whether the piece is the one of that number of these elements.
+fn is_row_piece(number: usize, piece: &Piece<'_>, row: &Row, decimal: &Decimal) -> bool {
+    let edge = if number < 3 { &NOTE } else { &row.edge };
+    match piece {
+        Piece::Open(told) => number % 3 == 0 && told == edge,
+        Piece::Leaf(leaf) => is_row_leaf(number, leaf, row, decimal),
+        Piece::Close(told) => number % 3 == 2 && told == edge,
+    }
+}
+
+fn is_row_leaf(number: usize, leaf: &LeafRef<'_>, row: &Row, decimal: &Decimal) -> bool {
+    match leaf {
+        LeafRef::Bytes(bytes) if number == 1 => *bytes == b"ab".as_slice(),
+        LeafRef::Bytes(bytes) => number == 10 && bytes.is_empty(),
+        LeafRef::Number(told) => number == 4 && told == decimal,
+        LeafRef::Code(place) => number == 7 && *place == row.place,
+        LeafRef::Flag(_) => false,
+    }
+}
+
+// Asserts that the instance is those elements.
+fn expect_row(rt: &impl Abort, instance: &Instance, row: &Row, decimal: &Decimal) {
+    assert_eq!(rt; instance.count(), 12);
+    let mut walk = instance.walk();
+    for number in 0..12 {
+        match walk.next() {
+            Some(piece) => assert!(rt; is_row_piece(number, &piece, row, decimal)),
+            None => assert!(rt; false),
+        }
+    }
+}
+
+// Makes the instance of a row twice, the second time in the room of the first.
+fn tell_row(rt: &impl Abort, mut builder: Builder, row: &Row) -> Result<(), Fail>
+    requires { builder.pieces ≡ [] }
+{
+    let Some(number) = Decimal::make(row.whole, row.scale) else {
+        assert!(rt; false);
+        return Ok(());
+    };
+    add_row(&mut builder, row, &number)?;
+    let instance = builder.finish();
+    expect_row(rt, &instance, row, &number);
+    let mut again = instance.reset();
+    add_row(&mut again, row, &number)?;
+    expect_row(rt, &again.finish(), row, &number);
+    Ok(())
+}
+
+#[test]
+fn a_piece_of_any_numbers_is_told_as_it_was(rt: HostRuntime) -> Result<(), Fail> {
+    for row in &ROWS {
+        tell_row(&rt, Builder::new(rt.alloc()), row)?;
+    }
+    Ok(())
+}

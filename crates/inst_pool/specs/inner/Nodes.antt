@@ -6,7 +6,7 @@ use Rattle.inst_pool.specs.declared.piece.Edge.{Edge}
 use Rattle.inst_pool.specs.declared.content.Content.{Content}
 use Rattle.inst_pool.specs.declared.content.Content.TheVariants as long
 use Rattle.inst_pool.specs.declared.node.Kind.{Kind}
-use Rattle.inst_pool.specs.declared.node.Kind.TheVariants.{Open, Bytes, Number, Flag, Code, Close, Apart}
+use Rattle.inst_pool.specs.declared.node.Kind.TheVariants.{Open, Bytes, Number, Flag, Code, Close, Amount, Apart}
 use Rattle.inst_pool.specs.declared.node.Node.{Node}
 use Rattle.inst_pool.specs.declared.others.Other.{Other}
 
@@ -18,6 +18,7 @@ kind_of (suc (suc zero)) = Number
 kind_of (suc (suc (suc zero))) = Flag
 kind_of (suc (suc (suc (suc zero)))) = Code
 kind_of (suc (suc (suc (suc (suc zero))))) = Close
+kind_of (suc (suc (suc (suc (suc (suc zero)))))) = Amount
 kind_of bits = Apart
 
 -- what the lowest three bits of a node tell, and the number of 29 bits that it holds
@@ -31,9 +32,17 @@ held_in node = node.word / 8
 abbrev pub edge_in : ℕ → Edge
 edge_in held = record { slot = held % 128; target = held / 128 % 2048; parent = held / 0x4_0000 }
 
--- the decimal that a number tells: 3 bits for the scale
+-- the decimal without a sign of this whole part and scale
+abbrev pub decimal_of : ℕ → ℕ → DecimalNumber
+decimal_of whole scale = record { whole = pos whole; scale = scale }
+
+-- the decimal that a number tells: 26 bits for the whole part, and 3 for the scale
 abbrev pub decimal_in : ℕ → DecimalNumber
-decimal_in held = record { whole = pos (held / 8); scale = held % 8 }
+decimal_in held = decimal_of (held / 8) (held % 8)
+
+-- the same, where the scale is 2
+abbrev pub amount_in : ℕ → DecimalNumber
+amount_in held = decimal_of held 2
 
 -- the content of a piece at a place by the kind and the number of its node, beside the short texts and the other contents
 abbrev pub content_by : List Content → List Other → ℕ → Kind → ℕ → Content
@@ -43,6 +52,7 @@ content_by texts others at Number held = long.Number (decimal_in held)
 content_by texts others at Flag held = long.Flag (held == 1)
 content_by texts others at Code held = long.Code held
 content_by texts others at Close held = long.Close (edge_in held)
+content_by texts others at Amount held = long.Number (amount_in held)
 content_by texts others at Apart held = other_at others at
 
 abbrev pub content_of : List Content → List Other → ℕ → Node → Content
@@ -52,6 +62,7 @@ content_of texts others at node = content_by texts others at (kind_in node) (hel
 abbrev pub IsKindWithin : List Content → List Other → ℕ → Kind → ℕ → Type 0
 IsKindWithin texts others at Bytes held = held < length texts
 IsKindWithin texts others at Number held = IsDecimal (decimal_in held)
+IsKindWithin texts others at Amount held = IsDecimal (amount_in held)
 IsKindWithin texts others at Apart held = HasOther others at
 IsKindWithin texts others at kind held = Unit {0}
 
