@@ -1,9 +1,7 @@
 -- Runs of components where pieces are kept.
 use Rattle.std.specs.Prelude.{slice_set, vec_capacity}
-use Rattle.std.proofs.lemmas.List.{length-take-le}
-use Rattle.std.proofs.Common.{◌≡◌, ℕ, zero, suc, ◌+◌, ◌-◌, ◌<◌, ◌≤◌, Bool, true, false, List, [], ◌∷◌, ◌++◌, length, take, drop, Option, Some, None, refl, sym, ap, ◌∙◌, subst, arith, append-nil}
+use Rattle.std.proofs.Common.{◌≡◌, ℕ, zero, suc, ◌+◌, ◌-◌, ◌<◌, ◌≤◌, true, false, List, [], ◌∷◌, ◌++◌, length, take, Option, Some, refl, sym, ap, ◌∙◌, subst, arith}
 use Rattle.data_types.specs.Leaf.{Leaf}
-use Rattle.der_octets.specs.LengthSteps as lengths
 use Rattle.der_octets.specs.TagSteps.{tag_view}
 use Rattle.der_octets.specs.declared.tag_step.Identifier as ids
 use Rattle.inst_pool.specs.Pieces.{Region}
@@ -15,12 +13,12 @@ use Rattle.der_model.specs.ShownPieces.{end_each, elements_ended}
 use Rattle.der_model.specs.NestedPieces.{elements_around}
 use Rattle.der_codec.specs.Checking.{KeepsContents}
 use Rattle.der_codec.specs.Components.{IsFound}
-use Rattle.der_codec.specs.Decoding.{Reads, HasReadParts, IsFresh, IsFreshOrOver, IsWaiting, IsBelowEnd, IsAdvanced, end_of_first, end_of_levels, level_at}
+use Rattle.der_codec.specs.Decoding.{Reads, HasReadParts, IsFresh, IsFreshOrOver, IsBelowEnd, IsAdvanced, end_of_first, level_at}
 use Rattle.der_codec.specs.Judging.{HoldsContents}
-use Rattle.der_codec.specs.KeptPieces.{Shows, KeepsShown, StaysAlone, GoOnByBegun, GoesOnByLast, HoldsLeafAt, IsLastSpot, PiecesGoOn, AreOpen, around_of}
+use Rattle.der_codec.specs.KeptPieces.{KeepsShown, GoOnByBegun, GoesOnByLast, HoldsLeafAt, IsLastSpot, PiecesGoOn, AreOpen, around_of}
 use Rattle.der_codec.specs.Levels.{IsLevel, inwards, first_of, rest_of}
 use Rattle.der_codec.specs.OpenLeaves.{HoldsNothing}
-use Rattle.der_codec.specs.Reserved.{IsKeeping, HasEnough, HoldMore, HoldBegun, HoldLeafWithin}
+use Rattle.der_codec.specs.Reserved.{HasEnough, HoldMore, HoldBegun, HoldLeafWithin}
 use Rattle.der_codec.specs.inner.Entering.{HasBegunComponent, StandsFirst}
 use Rattle.der_codec.specs.inner.KeptRuns.{run_at, decoder_at, checker_at, RunKeeps, StaysInRun}
 use Rattle.der_codec.specs.inner.Runs.{RunReads, IsOneOctet}
@@ -40,7 +38,6 @@ use Rattle.der_codec.proofs.LastSpots.{last_begun_spot}
 use Rattle.der_codec.proofs.RoomSteps.{begun_enough, leaf_enough, value_end_enough}
 use Rattle.der_codec.proofs.Runs.{run_begins, first_rest, fresh_is, fresh_start, begun}
 use Rattle.der_codec.proofs.ShownFed.{end_open, end_shown, value_ends}
-use Rattle.der_codec.proofs.ShownSteps.{levels_open}
 use Rattle.der_codec.proofs.ShownUsual.{shows_as}
 use Rattle.der_codec.proofs.UsualFed.{entered, passed}
 use Rattle.der_codec.proofs.UsualSteps.{none_taken}

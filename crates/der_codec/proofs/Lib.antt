@@ -40,4 +40,5 @@ pub mod ShownUsual
 pub mod Keeping
 pub mod RoomSteps
 pub mod KeptRuns
+pub mod WideRuns
 pub mod Widened

@@ -193,8 +193,8 @@ value_end_enough T c e bytes r t shows closes h =
 
 -- ---- components of the usual form
 
-pub begun_enough : (T : Tables) (c : DerChecker) (b : Begun) (n : ℕ) (behind piece bytes : List ℕ) → HasReadParts (der_message T) c.decoder bytes → KeepsShown (der_message T) c.decoder c.pieces bytes → StandsFirst (der_message T) c.decoder bytes b n behind piece → HasEnough c T (bytes ++ piece) → HoldBegun (der_message T) b.around c.pieces
-begun_enough T c b n behind piece bytes read shows s h = by c.pieces refl
+pub component_enough : (T : Tables) (c : DerChecker) (b : Begun) (o n : ℕ) (bytes : List ℕ) → HasReadParts (der_message T) c.decoder bytes → KeepsShown (der_message T) c.decoder c.pieces bytes → HasBegunComponent (der_message T) c.decoder bytes o n b → HasEnough c T (bytes ++ o ∷ []) → HoldBegun (der_message T) b.around c.pieces
+component_enough T c b o n bytes read shows begun less = by c.pieces refl
   where
     m : DerMessage ℕ
     m = der_message T
@@ -208,26 +208,24 @@ begun_enough T c b n behind piece bytes read shows s h = by c.pieces refl
     ys : List Level
     ys = rest_of xs
 
-    begun : HasBegunComponent m d bytes s.first n b
-    begun = s.begun
-
     r : Reads m xs (due.Tag begun.tag_step) d.start d.place bytes
     r = subst (λ z. Reads m xs z d.start d.place bytes) begun.due_is read
-
-    less : HasEnough c T (bytes ++ s.first ∷ [])
-    less = enough_less T c (bytes ++ s.first ∷ []) (n ∷ behind) (bytes ++ piece) (behind_is bytes piece (s.first ∷ []) (n ∷ behind) s.piece_is) h
 
     all : HoldMore c.pieces (begun_pieces m begun.read.state)
     all =
         let e = due.Length b.constructed b.spot begun.step in
         let ends = begun.end_is in
         let fits = begun.fits in
-        adds_enough T c xs (b.around ∷ ys) (due.Tag begun.tag_step) e d.start d.place (d.place + 1) (d.place + 1) bytes (bytes ++ s.first ∷ []) (begun_pieces m begun.read.state) r begun.read less (subst (λ z. Shows m xs z d.start d.place c.pieces bytes) begun.due_is shows)
-        (tag_adds m xs (b.around ∷ ys) begun.tag_step e d.start d.place (d.place + 1) (d.place + 1) bytes s.first r begun.below (omega (arith, ends, fits)) tt begun.read)
+        adds_enough T c xs (b.around ∷ ys) (due.Tag begun.tag_step) e d.start d.place (d.place + 1) (d.place + 1) bytes (bytes ++ o ∷ []) (begun_pieces m begun.read.state) r begun.read less (subst (λ z. Shows m xs z d.start d.place c.pieces bytes) begun.due_is shows)
+        (tag_adds m xs (b.around ∷ ys) begun.tag_step e d.start d.place (d.place + 1) (d.place + 1) bytes o r begun.below (omega (arith, ends, fits)) tt begun.read)
 
     by : (o : Option Region) → c.pieces ≡ o → HoldBegun m b.around o
     by None e = tt
     by (Some region) e = λ edges are. subst (HoldsMore region) (sym (begun_shows m b.around ys b.constructed b.spot begun.step edges are begun.read.state begun.read.is_open)) (subst (λ z. HoldMore z (begun_pieces m begun.read.state)) e all)
+
+pub begun_enough : (T : Tables) (c : DerChecker) (b : Begun) (n : ℕ) (behind piece bytes : List ℕ) → HasReadParts (der_message T) c.decoder bytes → KeepsShown (der_message T) c.decoder c.pieces bytes → StandsFirst (der_message T) c.decoder bytes b n behind piece → HasEnough c T (bytes ++ piece) → HoldBegun (der_message T) b.around c.pieces
+begun_enough T c b n behind piece bytes read shows s h =
+    component_enough T c b s.first n bytes read shows s.begun (enough_less T c (bytes ++ s.first ∷ []) (n ∷ behind) (bytes ++ piece) (behind_is bytes piece (s.first ∷ []) (n ∷ behind) s.piece_is) h)
 
 -- with the leaf that is passed
 pub leaf_enough : (T : Tables) (c : DerChecker) (b : Begun) (n : ℕ) (behind piece bytes contents : List ℕ) (leaf : Leaf) → HasReadParts (der_message T) c.decoder bytes → KeepsShown (der_message T) c.decoder c.pieces bytes → StandsFirst (der_message T) c.decoder bytes b n behind piece → b.constructed ≡ false → contents ≡ take n behind → n ≤ length behind

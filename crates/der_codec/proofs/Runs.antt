@@ -1,7 +1,7 @@
 -- Components of the usual form in a run, whose innermost level and place stand beside the decoder.
 use Rattle.std.specs.Prelude.{IfSome}
 use Rattle.std.proofs.lemmas.List.{length-take-le, nil_from_length}
-use Rattle.std.proofs.Common.{◌≡◌, ℕ, zero, suc, ◌+◌, ◌<◌, ◌≤◌, Bool, true, false, List, [], ◌∷◌, ◌++◌, length, take, drop, Option, Some, None, refl, sym, ap, ◌∙◌, subst, arith, append_assoc, append-nil, length-append}
+use Rattle.std.proofs.Common.{◌≡◌, ℕ, zero, suc, ◌+◌, ◌<◌, ◌≤◌, ◌^◌, Bool, true, false, List, [], ◌∷◌, ◌++◌, length, take, drop, Option, Some, None, refl, sym, ap, ◌∙◌, subst, arith, append_assoc, append-nil, length-append}
 use Rattle.der_octets.specs.TagSteps as tags
 use Rattle.der_octets.specs.TagSteps.{tag_view}
 use Rattle.der_octets.specs.LengthSteps as lengths
@@ -11,13 +11,14 @@ use Rattle.der_octets.specs.declared.length_step.LengthStep.{LengthStep}
 use Rattle.der_octets.specs.Octets.{length_octets}
 use Rattle.der_octets.proofs.LengthStepLemmas.{one_octet}
 use Rattle.der_octets.proofs.TagStepLemmas.{taken_none}
+use Rattle.reference_check.specs.Words.{UpTo}
 use Rattle.der_model.specs.Structures.{structure}
 use Rattle.der_model.specs.States as states
 use Rattle.der_model.specs.States.{level_answer, end_answer}
 use Rattle.der_model.specs.DerMessage.{DerMessage}
 use Rattle.der_codec.specs.Levels.{IsLevel, inwards, first_of, rest_of}
 use Rattle.der_codec.specs.Components.{IsFound, IsEnded}
-use Rattle.der_codec.specs.Decoding.{Reads, HasReadParts, IsFresh, IsWaiting, IsBelowEnd, IsAdvanced, HasIdentifier, level_at, end_of_levels}
+use Rattle.der_codec.specs.Decoding.{Reads, HasReadParts, IsFresh, IsWaiting, IsBelowEnd, IsAdvanced, HasIdentifier, end_of_first, level_at, end_of_levels}
 use Rattle.der_codec.specs.Judging.{HoldsContents}
 use Rattle.der_codec.specs.inner.Runs.{RunReads, IsOneOctet, EntersRun, PassesInRun, AreLengthOctets}
 use Rattle.der_codec.specs.declared.components.Found.TheVariants as found
@@ -29,6 +30,7 @@ use Rattle.der_codec.specs.declared.level.Spot.{Spot}
 use Rattle.der_codec.specs.declared.level.Level.{Level}
 use Rattle.der_codec.specs.declared.usual.Run.{Run}
 use Rattle.der_codec.proofs.ContentsSteps.{contents_clean, none_kept}
+use Rattle.der_codec.proofs.Counted.{count_below}
 use Rattle.der_codec.proofs.Inwards.{end_first}
 use Rattle.der_codec.proofs.Nested.{fresh_within, not_at_end}
 use Rattle.der_codec.proofs.StepTies.{reads_as, begin_read, open_primitive, short_has}
@@ -78,6 +80,12 @@ run_some (y ∷ ys) x first = omega arith
 
 -- ---- a component begins
 
+-- the count of the innermost level is within bounds
+pub few_in_run : (m : DerMessage ℕ) (d : Decoder) (run : Run) (bytes : List ℕ) → run.place ≤ 2 ^ 40 → RunReads m d run bytes → run.level.count < 2 ^ 63
+few_in_run m d run bytes room r =
+    let low = count_below m (run.level ∷ rest_of (inwards d.levels.items)) run.level d.due run.place run.place bytes r refl in
+    omega (arith, room, low)
+
 pub begun : (m : DerMessage ℕ) (old : Decoder) (run : Run) (around : Level) (bytes : List ℕ) (o number : ℕ) (id : ids.Identifier) (spot : Spot) (step : LengthStep) → RunReads m old run bytes → IsFresh old.due → IsOneOctet o id → run.place < run.level.end
     → ((l : states.DerLevel ℕ) → IsLevel m.forms run.level l → IsFound m.forms (found.Begins number spot) (level_answer m l id.constructed (tag_view id))) → IsAdvanced run.level number around → lengths.HasTakenLength step [] → (c : Bool) → id.constructed ≡ c
     → Reads m (around ∷ rest_of (inwards old.levels.items)) (due.Length c spot step) (run.place + 1) (run.place + 1) (bytes ++ o ∷ [])
@@ -87,32 +95,41 @@ begun m old run around bytes o number id spot step r fresh one low h advanced no
     subst (λ z. Reads m (around ∷ xs) (due.Length z spot step) (run.place + 1) (run.place + 1) (bytes ++ o ∷ [])) is
     (begin_read m (run.level ∷ xs) run.level around old.due run.place run.place bytes o id number spot step r refl has low h advanced none)
 
+-- behind an identifier that reads so far, the octets of a length open a constructed value
+pub wide_opens : (m : DerMessage ℕ) (ys : List Level) (spot : Spot) (step : LengthStep) (f : TagStep) (at first n : ℕ) (bytes more : List ℕ) → Reads m ys (due.Length true spot step) at at bytes → AreLengthOctets first more n → UpTo (at + (1 + length more) + n) (end_of_first ys) → tags.HasTakenTag f []
+    → Reads m (level_at spot (at + (1 + length more) + n) ∷ ys) (due.Tag f) (at + (1 + length more)) (at + (1 + length more)) (bytes ++ first ∷ more)
+wide_opens m ys spot step f at first n bytes more b l fits clean =
+    let front = l.front in
+    let last = l.last in
+    let x = level_at spot (at + (1 + length more) + n) in
+    let none : b.rest ≡ [] = nil_from_length b.rest (let a = b.start_is in let p = b.place_is in omega arith) in
+    let w = more_lengths m ys true spot step l.step at at bytes front b (subst (λ z. lengths.HasTakenLength l.step (z ++ front)) (sym none) l.taken) in
+    let rest : w.0.rest ++ last ∷ [] ≡ length_octets n = ap (λ z. z ++ last ∷ []) (w.1 ∙ ap (λ z. z ++ front) none) ∙ (sym l.are ∙ l.octets) in
+    let size : suc (length more) ≡ length front + 1 = ap length l.are ∙ length-append front (last ∷ []) in
+    let behind : at + length front + 1 ≡ at + (1 + length more) = omega (arith, size) in
+    let opened = opened_read m x ys spot l.step f at (at + length front) n (bytes ++ front) last w.0 l.short rest (subst (λ z. UpTo (z + n) (end_of_first ys)) (sym behind) fits) refl refl refl (ap (λ z. z + n) (sym behind)) clean in
+    let all : (bytes ++ front) ++ last ∷ [] ≡ bytes ++ first ∷ more = append_assoc bytes front (last ∷ []) ∙ ap (λ z. bytes ++ z) (sym l.are) in
+    subst (λ z. Reads m (x ∷ ys) (due.Tag f) z z (bytes ++ first ∷ more)) behind
+    (subst (Reads m (x ∷ ys) (due.Tag f) (at + length front + 1) (at + length front + 1)) all opened)
+
 -- a constructed one of which the length is these octets, which is entered
 pub wide_enters : (m : DerMessage ℕ) (old new : Decoder) (run after : Run) (bytes more : List ℕ) (o first n number : ℕ) (id : ids.Identifier) (spot : Spot) → RunReads m old run bytes → IsFresh old.due → IsOneOctet o id → run.place < run.level.end
     → ((l : states.DerLevel ℕ) → IsLevel m.forms run.level l → IsFound m.forms (found.Begins number spot) (level_answer m l id.constructed (tag_view id))) → AreLengthOctets first more n → id.constructed ≡ true → new.due ≡ old.due
     → EntersRun old new run after number spot (2 + length more) n → RunReads m new after (bytes ++ o ∷ first ∷ more)
 wide_enters m old new run after bytes more o first n number id spot r fresh one low h l constructed same e =
-    let front = l.front in
-    let last = l.last in
-    let xs = rest_of (inwards old.levels.items) in
-    let ys = e.around ∷ xs in
+    let ys = e.around ∷ rest_of (inwards old.levels.items) in
     let t = none_taken in
     let f = fresh_is old.due fresh in
     let at = run.place + 1 in
-    let x = level_at spot (run.place + (2 + length more) + n) in
+    let end = at + (1 + length more) in
     let b = begun m old run e.around bytes o number id spot t.0 r fresh one low h e.is_advanced t.1 true constructed in
-    let none : b.rest ≡ [] = nil_from_length b.rest (let a = b.start_is in let p = b.place_is in omega arith) in
-    let w = more_lengths m ys true spot t.0 l.step at at (bytes ++ o ∷ []) front b (subst (λ z. lengths.HasTakenLength l.step (z ++ front)) (sym none) l.taken) in
-    let rest : w.0.rest ++ last ∷ [] ≡ length_octets n = ap (λ z. z ++ last ∷ []) (w.1 ∙ ap (λ z. z ++ front) none) ∙ (sym l.are ∙ l.octets) in
-    let size : suc (length more) ≡ length front + 1 = ap length l.are ∙ length-append front (last ∷ []) in
     let ends = e.is_advanced.end in
     let fits = e.fits in
-    let behind : run.place + (2 + length more) ≡ at + length front + 1 = omega arith in
-    let opened = opened_read m x ys spot l.step f.0 at (at + length front) n ((bytes ++ o ∷ []) ++ front) last w.0 l.short rest (omega (arith, ends, fits, size)) refl refl refl (omega (arith, size)) f.2 in
-    let all : ((bytes ++ o ∷ []) ++ front) ++ last ∷ [] ≡ bytes ++ o ∷ first ∷ more = append_assoc (bytes ++ o ∷ []) front (last ∷ []) ∙ (ap (λ z. (bytes ++ o ∷ []) ++ z) (sym l.are) ∙ append_assoc bytes (o ∷ []) (first ∷ more)) in
-    reads_as m (after.level ∷ rest_of (inwards new.levels.items)) (x ∷ ys) new.due (due.Tag f.0) after.place (at + length front + 1) after.place (at + length front + 1) (bytes ++ o ∷ first ∷ more)
-    (ap (λ z. z ∷ rest_of (inwards new.levels.items)) e.level_is ∙ ap (λ z. x ∷ z) e.levels_are) (same ∙ f.1) (e.place_is ∙ behind) (e.place_is ∙ behind)
-    (subst (Reads m (x ∷ ys) (due.Tag f.0) (at + length front + 1) (at + length front + 1)) all opened)
+    let behind : run.place + (2 + length more) ≡ end = omega arith in
+    let opened = wide_opens m ys spot t.0 f.0 at first n (bytes ++ o ∷ []) more b l (omega (arith, ends, fits)) f.2 in
+    reads_as m (after.level ∷ rest_of (inwards new.levels.items)) (level_at spot (end + n) ∷ ys) new.due (due.Tag f.0) after.place end after.place end (bytes ++ o ∷ first ∷ more)
+    (ap (λ z. z ∷ rest_of (inwards new.levels.items)) (e.level_is ∙ ap (λ z. level_at spot (z + n)) behind) ∙ ap (λ z. level_at spot (end + n) ∷ z) e.levels_are) (same ∙ f.1) (e.place_is ∙ behind) (e.place_is ∙ behind)
+    (subst (Reads m (level_at spot (end + n) ∷ ys) (due.Tag f.0) end end) (append_assoc bytes (o ∷ []) (first ∷ more)) opened)
 
 -- the same of a length of one octet
 pub run_enters : (m : DerMessage ℕ) (old new : Decoder) (run after : Run) (bytes : List ℕ) (o n number : ℕ) (id : ids.Identifier) (spot : Spot) → RunReads m old run bytes → IsFresh old.due → IsOneOctet o id → run.place < run.level.end

@@ -5,6 +5,7 @@ use Rattle.std.proofs.lemmas.List.{nil_from_length}
 use Rattle.data_types.specs.Leaf.{Leaf}
 use Rattle.data_types.specs.Value.{Piece, Holds}
 use Rattle.der_octets.specs.Octets.{identifier, length_octets}
+use Rattle.der_octets.specs.LengthSteps as lengths
 use Rattle.der_octets.specs.declared.tag_step.TagStep.{TagStep}
 use Rattle.der_octets.specs.declared.length_step.LengthStep.{LengthStep}
 use Rattle.inst_pool.specs.Pieces.{Region, edges_open_behind}
@@ -120,33 +121,39 @@ tag_adds m xs ys step e start place begin end bytes o r below settled new t =
 
 -- ---- length octets
 
-pub length_adds : (m : DerMessage ℕ) (xs ys : List Level) (c : Bool) (spot : Spot) (step : LengthStep) (e : Due) (start place begin end : ℕ) (bytes : List ℕ) (o : ℕ) (r : Reads m xs (due.Length c spot step) start place bytes) → IsSettled e end (end_of_first ys) → BeginsContents e begin end
-    → (t : Reads m ys e begin end (bytes ++ o ∷ [])) → open_count t.state ≡ open_count r.state → Adds m r.parts r.state r.at t.parts []
-length_adds m xs ys c spot step e start place begin end bytes o r settled new t same =
-    by (either_further m Start 0 (bytes ++ o ∷ []) r.parts t.parts r.state t.state r.at t.at (r.rest ++ o ∷ []) t.rest (front_more m Start 0 bytes r.parts r.state r.at r.rest (o ∷ []) r.front) t.front)
+-- the last of which comes behind those that the step has taken
+pub lengths_add : (m : DerMessage ℕ) (xs ys : List Level) (c : Bool) (spot : Spot) (step taken : LengthStep) (e : Due) (start place begin end : ℕ) (bytes octets front : List ℕ) (last : ℕ) (r : Reads m xs (due.Length c spot step) start place bytes) → r.rest ++ octets ≡ front ++ last ∷ [] → lengths.HasTakenLength taken front
+    → 0 < length octets → IsSettled e end (end_of_first ys) → BeginsContents e begin end → (t : Reads m ys e begin end (bytes ++ octets)) → open_count t.state ≡ open_count r.state → Adds m r.parts r.state r.at t.parts []
+lengths_add m xs ys c spot step taken e start place begin end bytes octets front last r are come some settled new t same =
+    by (either_further m Start 0 (bytes ++ octets) r.parts t.parts r.state t.state r.at t.at (r.rest ++ octets) t.rest (front_more m Start 0 bytes r.parts r.state r.at r.rest octets r.front) t.front)
   where
     none : (ps : List Part) (s : State ℕ) (at : ℕ) → length ps ≡ 0 → PartsShow m s at ps []
     none [] s at z = refl
     none (p ∷ ps) s at z = absurd (omega (arith, z))
 
-    go : (s : State ℕ) → IsOpenState m xs (due.Length c spot step) s → open_count t.state ≡ open_count s → (ps : List Part) → DerFront m s r.at (r.rest ++ o ∷ []) ps t.state t.at t.rest → PartsShow m s r.at ps []
+    go : (s : State ℕ) → IsOpenState m xs (due.Length c spot step) s → open_count t.state ≡ open_count s → (ps : List Part) → DerFront m s r.at (r.rest ++ octets) ps t.state t.at t.rest → PartsShow m s r.at ps []
     go s op count [] f = refl
     go (AwaitsLength true of names ls) op count (Length n ∷ ps) (after, is, st, up, cl, f) =
         let at = r.at + length (length_octets n) in
         let next : State ℕ = Within (record { spot = of; names = names; came = []; end = end_from r.at n } ∷ ls) in
-        let alone = ends_alone m next at after ps t.state t.at t.rest (length_ends step r.rest after o n r.is_begun is) f in
+        let alone = ends_alone m next at after ps t.state t.at t.rest (length_ends taken front after last n come (sym are ∙ is)) f in
         ([], [], refl, none ps next at (omega (arith, alone, count)), refl)
     go (AwaitsLength false of names ls) op count (Length n ∷ ps) (after, is, st, up, cl, f) =
         let at = r.at + length (length_octets n) in
         let next : State ℕ = AwaitsContents of names n ls in
-        let alone = ends_alone m next at after ps t.state t.at t.rest (length_ends step r.rest after o n r.is_begun is) f in
+        let alone = ends_alone m next at after ps t.state t.at t.rest (length_ends taken front after last n come (sym are ∙ is)) f in
         ([], [], refl, none ps next at (omega (arith, alone, count)), refl)
     go (AwaitsLength b of names ls) op count (p ∷ ps) (after, is, st, up, cl, f) = absurd st
     go s op count (p ∷ ps) f = absurd op
 
-    by : Between m r.parts r.state r.at (r.rest ++ o ∷ []) t.parts t.state t.at t.rest ⊎ Behind m r.state r.at (r.rest ++ o ∷ []) t.state t.at t.rest → Adds m r.parts r.state r.at t.parts []
+    by : Between m r.parts r.state r.at (r.rest ++ octets) t.parts t.state t.at t.rest ⊎ Behind m r.state r.at (r.rest ++ octets) t.state t.at t.rest → Adds m r.parts r.state r.at t.parts []
     by (inl b) = record { parts = b.parts; are = b.are; show = go r.state r.is_open same b.parts b.front }
-    by (inr b) = absurd (none_further m ys e begin end (bytes ++ o ∷ []) t settled new r.state r.at (r.rest ++ o ∷ []) (let sum = length-append r.rest (o ∷ []) in omega (arith, sum)) b)
+    by (inr b) = absurd (none_further m ys e begin end (bytes ++ octets) t settled new r.state r.at (r.rest ++ octets) (let sum = length-append r.rest octets in omega (arith, sum, some)) b)
+
+-- the next one
+pub length_adds : (m : DerMessage ℕ) (xs ys : List Level) (c : Bool) (spot : Spot) (step : LengthStep) (e : Due) (start place begin end : ℕ) (bytes : List ℕ) (o : ℕ) (r : Reads m xs (due.Length c spot step) start place bytes) → IsSettled e end (end_of_first ys) → BeginsContents e begin end
+    → (t : Reads m ys e begin end (bytes ++ o ∷ [])) → open_count t.state ≡ open_count r.state → Adds m r.parts r.state r.at t.parts []
+length_adds m xs ys c spot step e start place begin end bytes o r settled new t same = lengths_add m xs ys c spot step step e start place begin end bytes (o ∷ []) r.rest o r refl r.is_begun (omega arith) settled new t same
 
 -- ---- contents octets
 

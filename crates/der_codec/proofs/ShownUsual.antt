@@ -81,7 +81,7 @@ last_ended m x xs edges are [] h = absurd h
 last_ended m x xs edges are (l ∷ ls) h = are l h.0
 
 -- behind the identifier octet
-identifier_shown : (m : DerMessage ℕ) (d : Decoder) (b : Begun) (old new : Option Region) (bytes : List ℕ) (o n : ℕ) (edges : List Edge) → HasReadParts m d bytes → KeepsShown m d old bytes → (h : HasBegunComponent m d bytes o n b) → AreLast m b.around edges → PiecesGoOn old new (begin_each edges)
+pub identifier_shown : (m : DerMessage ℕ) (d : Decoder) (b : Begun) (old new : Option Region) (bytes : List ℕ) (o n : ℕ) (edges : List Edge) → HasReadParts m d bytes → KeepsShown m d old bytes → (h : HasBegunComponent m d bytes o n b) → AreLast m b.around edges → PiecesGoOn old new (begin_each edges)
     → Shows m (b.around ∷ rest_of (inwards d.levels.items)) (due.Length b.constructed b.spot h.step) (d.place + 1) (d.place + 1) new (bytes ++ o ∷ [])
 identifier_shown m d b old new bytes o n edges r shows h are goes =
     let xs = inwards d.levels.items in

@@ -1,7 +1,7 @@
 -- Components of the usual form, in a checker: where it keeps no pieces, and where it keeps them.
 use Rattle.std.specs.Prelude.{Ok, Err, Result}
 use Rattle.std.proofs.lemmas.List.{length-take-le}
-use Rattle.std.proofs.Common.{◌≡◌, ℕ, zero, suc, ◌+◌, ◌≤◌, ◌<◌, ◌^◌, true, false, List, [], ◌∷◌, ◌++◌, length, take, drop, Option, None, refl, sym, ap, ◌∙◌, subst, arith, append-nil}
+use Rattle.std.proofs.Common.{◌≡◌, ℕ, zero, suc, ◌+◌, ◌≤◌, ◌<◌, ◌^◌, true, false, List, [], ◌∷◌, ◌++◌, length, take, Option, None, refl, sym, ap, ◌∙◌, subst, arith, append-nil}
 use Rattle.der_octets.specs.TagSteps as tags
 use Rattle.der_octets.specs.declared.tag_step.TagStep.{TagStep}
 use Rattle.inst_pool.specs.Pieces.{Region}
@@ -18,9 +18,9 @@ use Rattle.der_codec.specs.declared.checker.DerChecker.{DerChecker}
 use Rattle.der_codec.specs.declared.decoder.Decoder.{Decoder}
 use Rattle.der_codec.specs.declared.decoder.Due.TheVariants as due
 use Rattle.der_codec.specs.declared.decoder.Stop.{Stop}
-use Rattle.der_codec.proofs.Fed.{taken_front, stopped_front, stopped_further, joined}
+use Rattle.der_codec.proofs.Fed.{taken_front, stopped_front, joined}
 use Rattle.der_codec.proofs.ShownUsual.{header_read, leaf_taken, entered_shown, leaf_shown}
-use Rattle.der_codec.proofs.UsualSteps.{front_more, run_room}
+use Rattle.der_codec.proofs.UsualSteps.{front_more}
 
 pub none_shown : (m : DerMessage ℕ) (d : Decoder) (kept : Option Region) (bytes : List ℕ) → kept ≡ None → KeepsShown m d kept bytes
 none_shown m d kept bytes none = subst (λ z. KeepsShown m d z bytes) (sym none) tt
@@ -50,9 +50,6 @@ none_front_as T old new piece given = record {
   within = omega arith;
 }
 
-pub none_front : (T : Tables) (same : DerChecker) (piece : List ℕ) → TakesDerFront T same same piece (Ok 0)
-none_front T same piece = none_front_as T same same piece (λ bytes h. h)
-
 -- so many bytes are taken, and the values end behind them
 pub usual_taken : (T : Tables) (old mid new : DerChecker) (piece : List ℕ) (n : ℕ) → n ≤ length piece → der_bytes_fed old + length piece ≤ 2 ^ 40 → mid.failed ≡ old.failed → new.failed ≡ mid.failed
     → ((bytes : List ℕ) → HasReadParts (der_message T) old.decoder bytes → HasReadParts (der_message T) mid.decoder (bytes ++ take n piece)) → mid.pieces ≡ None
@@ -71,24 +68,6 @@ some_taken zero none = absurd (none refl)
 some_taken (suc n) none = omega arith
 
 -- ---- where pieces are kept
-
--- behind so many bytes of the piece
-pub front_room : (T : Tables) (old mid : DerChecker) (bytes piece rest : List ℕ) (taken : ℕ) → rest ≡ drop taken piece → HasFedDer old T bytes → HasFedDer mid T (bytes ++ take taken piece) → taken ≤ length piece → der_bytes_fed old + length piece ≤ 2 ^ 40 → der_bytes_fed mid + length rest ≤ 2 ^ 40
-front_room T old mid bytes piece rest taken is h k within room = run_room (der_message T) old.decoder mid.decoder bytes piece rest taken is h.reading.read k.reading.read within room
-
-pub run_stopped : (T : Tables) (old mid new : DerChecker) (piece rest : List ℕ) (taken : ℕ) (s : Stop) → rest ≡ drop taken piece → ((bytes : List ℕ) → HasFedDer old T bytes → HasFedDer mid T (bytes ++ take taken piece)) → TakesDerFront T mid new rest (Err s) → TakesDerFront T old new piece (Err s)
-run_stopped T old mid new piece rest taken s is given t = record {
-  ok = λ bytes h. tt;
-  err = λ bytes h. stopped_further T new.decoder bytes piece rest taken s is (t.err (bytes ++ take taken piece) (given bytes h));
-  within = tt;
-}
-
-pub run_ends : (T : Tables) (old mid new : DerChecker) (piece rest : List ℕ) (taken count : ℕ) → count ≡ 0 → taken ≤ length piece → ((bytes : List ℕ) → HasFedDer old T bytes → HasFedDer mid T (bytes ++ take taken piece)) → TakesDerFront T mid new rest (Ok count) → TakesDerFront T old new piece (Ok taken)
-run_ends T old mid new piece rest taken count none within given t = record {
-  ok = λ bytes h. let all = bytes ++ take taken piece in subst (HasFedDer new T) (ap (λ z. all ++ take z rest) none ∙ append-nil all) (t.ok all (given bytes h));
-  err = λ bytes h. tt;
-  within = within;
-}
 
 -- where no byte was taken, the same bytes were given
 pub none_fed : (T : Tables) (old new : DerChecker) (bytes piece : List ℕ) (n : ℕ) → n ≡ 0 → TakesDerFront T old new piece (Ok n) → HasFedDer old T bytes → HasFedDer new T bytes

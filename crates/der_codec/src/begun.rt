@@ -94,7 +94,7 @@ impl Decoder {
 
 /// What identifier octets are in an open value, where they break no rule.
 #[inline(always)]
-fn field_found(model: &Model, level: &Level, id: Identifier) -> Option<Field>
+pub(crate) fn field_found(model: &Model, level: &Level, id: Identifier) -> Option<Field>
     ensures { IfSome result (λ field. (fragment : Tree → List ℕ) (l : states.DerLevel ℕ) → IsLevel (types_of model.now) level.now l
         → IsFound (types_of model.now) (Found.Begins field.number field.spot) (level_answer (in_der fragment (message_of model.now)) l id.constructed (tag_view id))) }
 {

@@ -1,12 +1,12 @@
 //! The steps of a run of components where pieces are kept: a component of the usual form, and the ends behind it.
-ghost use Rattle.std.specs.Prelude.{◌≡◌, ◌+◌, ◌<◌, ◌≤◌, ◌^◌, ◌++◌, ℕ, List, IfOk, IsOk, true, false, length, take};
+ghost use Rattle.std.specs.Prelude.{◌≡◌, ◌+◌, ◌<◌, ◌≤◌, ◌^◌, ◌++◌, ◌∷◌, ℕ, List, IfOk, IsOk, true, false, length, take};
 ghost use Rattle.message_model.specs.Tables.{types_of};
 ghost use Rattle.der_model.specs.DerMessage.{der_message};
 ghost use Rattle.der_codec.specs.Checked.{CheckTypes};
 ghost use Rattle.der_codec.specs.Decoding.{IsFresh};
 ghost use Rattle.der_codec.specs.Reserved.{HasEnough};
 ghost use Rattle.der_codec.specs.inner.Entering.{StandsFirst};
-ghost use Rattle.der_codec.specs.inner.KeptRuns.{RunKeeps, StaysInRun, decoder_at};
+ghost use Rattle.der_codec.specs.inner.KeptRuns.{RunKeeps, StaysInRun, EntersBy, decoder_at};
 
 use crate::begun::Begun;
 use crate::checker::DerChecker;
@@ -50,24 +50,64 @@ impl DerChecker {
         let Some((second, behind)) = others.split_first() else {
             return Ok(0);
         };
+        if *second >= 128 {
+            return self.keep_wide(run, model, *first, *second, behind, piece);
+        }
         match self.decoder.begun(*run, model, *first, *second) {
             None => Ok(0),
             Some(begun) => {
                 if begun.constructed {
-                    return self.keep_inner(run, model, begun, piece);
+                    return self.keep_inner(run, model, begun, 2, piece);
                 }
                 self.keep_leaf(run, model, begun, *second, behind, piece)
             }
         }
     }
 
-    /// Goes into the component that stands first in the piece, where no memory is wanted for it.
+    /// Goes into the component whose first two octets these are, where its length has more octets than one.
+    #[inline(never)]
+    fn keep_wide(
+        &mut self,
+        run: &mut Run,
+        model: &Model,
+        first: u8,
+        second: u8,
+        behind: &[u8],
+        piece: &[u8],
+    ) -> Result<usize, AllocError>
+        requires room { run.old.place + length piece.now ≤ 2 ^ 40 }
+        requires some { 0 < length self.old.decoder.levels.items }
+        requires fresh { IsFresh self.old.decoder.due }
+        requires low { run.old.place < run.old.level.end }
+        requires checks { CheckTypes (types_of model.now) self.old.checks }
+        requires given { (bytes : List ℕ) × RunKeeps model.now self.old run.old bytes }
+        requires piece { piece.now ≡ first ∷ second ∷ behind.now }
+        ensures checks { CheckTypes (types_of model.now) self.new.checks }
+        ensures ok { (bytes : List ℕ) → RunKeeps model.now self.old run.old bytes → IfOk result (λ n. 0 < n → RunKeeps model.now self.new run.new (bytes ++ take n piece.now)) }
+        ensures unchanged { IfOk result (λ n. n ≡ 0 → self.new.decoder ≡ self.old.decoder) }
+        ensures same { IfOk result (λ n. n ≡ 0 → self.new.pieces ≡ self.old.pieces) }
+        ensures run { IfOk result (λ n. n ≡ 0 → run.new ≡ run.old) }
+        ensures within { IfOk result (λ n. n ≤ length piece.now) }
+        ensures place { IfOk result (λ n. run.new.place ≡ run.old.place + n) }
+        ensures open { 0 < length self.new.decoder.levels.items }
+        ensures stays { StaysInRun model.now self.old self.new }
+        ensures memory { (bytes : List ℕ) → RunKeeps model.now self.old run.old bytes → HasEnough self.old model.now (bytes ++ piece.now) → IsOk result }
+    {
+        match self.decoder.begun_wide(*run, model, first, second, behind) {
+            None => Ok(0),
+            Some(wide) => self.keep_inner(run, model, wide.begun, 2 + wide.more, piece),
+        }
+    }
+
+    /// Goes into the component that stands first in the piece, behind its header of so many octets, where no memory is
+    /// wanted for it.
     #[inline(always)]
     fn keep_inner(
         &mut self,
         run: &mut Run,
         model: &Model,
         begun: Begun,
+        header: usize,
         piece: &[u8],
     ) -> Result<usize, AllocError>
         requires room { run.old.place + length piece.now ≤ 2 ^ 40 }
@@ -75,8 +115,8 @@ impl DerChecker {
         requires fresh { IsFresh self.old.decoder.due }
         requires checks { CheckTypes (types_of model.now) self.old.checks }
         requires given { (bytes : List ℕ) × RunKeeps model.now self.old run.old bytes }
-        requires constructed { begun.constructed ≡ true }
-        requires stands { (bytes : List ℕ) → RunKeeps model.now self.old run.old bytes → (n : ℕ) × (behind : List ℕ) × StandsFirst (der_message model.now) (decoder_at self.old.decoder run.old) bytes begun n behind piece.now }
+        requires header { 0 < header }
+        requires enters { (bytes : List ℕ) → RunKeeps model.now self.old run.old bytes → EntersBy model.now self.old run.old bytes begun header piece.now }
         ensures checks { CheckTypes (types_of model.now) self.new.checks }
         ensures ok { (bytes : List ℕ) → RunKeeps model.now self.old run.old bytes → IfOk result (λ n. 0 < n → RunKeeps model.now self.new run.new (bytes ++ take n piece.now)) }
         ensures unchanged { IfOk result (λ n. n ≡ 0 → self.new.decoder ≡ self.old.decoder) }
@@ -104,9 +144,9 @@ impl DerChecker {
             Ok(()) => {
                 *run = Run {
                     level: inner,
-                    place: run.place + 2,
+                    place: run.place + header as u64,
                 };
-                Ok(2)
+                Ok(header)
             }
         }
     }

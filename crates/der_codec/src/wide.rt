@@ -3,11 +3,14 @@ ghost use Rattle.std.specs.Prelude.{◌≡◌, ◌+◌, ◌<◌, ◌≤◌, ◌^
 ghost use Rattle.der_octets.specs.LengthSteps as lengths;
 ghost use Rattle.message_model.specs.Tables.{types_of};
 ghost use Rattle.der_model.specs.DerMessage.{der_message};
-ghost use Rattle.der_codec.specs.Decoding.{IsFresh};
+ghost use Rattle.der_codec.specs.Decoding.{HasReadParts, IsFresh};
+ghost use Rattle.der_codec.specs.inner.KeptRuns.{HasBegunWide, decoder_at};
 ghost use Rattle.der_codec.specs.inner.Runs.{RunReads, AreLengthOctets};
 
+use crate::begun::{Begun, field_found};
 use crate::components::{Found, identify};
 use crate::decoder::Decoder;
+use crate::headers::advanced;
 use crate::usual::{Run, one_octet};
 use der_octets::{LengthRead, LengthStep};
 use message_model::Model;
@@ -18,6 +21,14 @@ struct Wide {
     /// How many octets follow its first.
     more: usize,
     length: u64,
+}
+
+/// A component that begins behind a header of more octets than two, and fits into the innermost open value.
+#[derive(Clone, Copy, Debug)]
+pub(crate) struct WideBegun {
+    pub(crate) begun: Begun,
+    /// How many octets its header has more than two.
+    pub(crate) more: usize,
 }
 
 /// The length of which this is the first octet, and the next one or two are those behind.
@@ -107,5 +118,52 @@ impl Decoder {
             };
         }
         None
+    }
+
+    /// The component of which these are the first two octets, where nothing is refused and it is made of components.
+    pub(crate) fn begun_wide(
+        &self,
+        run: Run,
+        model: &Model,
+        first: u8,
+        second: u8,
+        behind: &[u8],
+    ) -> Option<WideBegun>
+        requires room { run.place + 2 + length behind.now ≤ 2 ^ 40 }
+        requires some { 0 < length self.now.levels.items }
+        requires fresh { IsFresh self.now.due }
+        requires low { run.place < run.level.end }
+        requires read { (bytes : List ℕ) × HasReadParts (der_message model.now) (decoder_at self.now run) bytes }
+        ensures within { IfSome result (λ w. w.more ≤ length behind.now) }
+        ensures begun { (bytes : List ℕ) → HasReadParts (der_message model.now) (decoder_at self.now run) bytes → IfSome result (λ w. HasBegunWide (der_message model.now) (decoder_at self.now run) bytes first second behind.now w) }
+    {
+        let Some(wide) = wide_length(second, behind) else {
+            return None;
+        };
+        let Some(id) = one_octet(first) else {
+            return None;
+        };
+        if !id.constructed {
+            return None;
+        }
+        let level = run.level;
+        match field_found(model, &level, id) {
+            None => None,
+            Some(field) => {
+                let end = run.place + (2 + wide.more as u64) + wide.length;
+                if level.end < end {
+                    return None;
+                }
+                Some(WideBegun {
+                    begun: Begun {
+                        around: advanced(level, field.number),
+                        spot: field.spot,
+                        constructed: true,
+                        end,
+                    },
+                    more: wide.more,
+                })
+            }
+        }
     }
 }

@@ -1,4 +1,4 @@
-use Rattle.std.proofs.Common.{refl, ap, length, arith}
+use Rattle.std.proofs.Common.{refl, arith}
 use Rattle.der_model.specs.DerMessage.{der_message}
 use Rattle.der_codec.specs.inner.KeptRuns.{decoder_at}
 use Rattle.der_codec.proofs.Keeping.{keeping_as}

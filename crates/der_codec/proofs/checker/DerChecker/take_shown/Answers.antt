@@ -1,11 +1,9 @@
-use Rattle.std.proofs.Common.{◌++◌, take, drop, refl, sym, subst, arith, ◌∙◌}
-use Rattle.der_codec.specs.Decoding.{IsFresh}
-use Rattle.der_codec.specs.OpenLeaves.{HoldsNothing}
+use Rattle.std.proofs.Common.{◌++◌, take, drop, refl, ◌∙◌}
 use Rattle.der_codec.proofs.Fed.{taken_front, stopped_front, joined}
 use Rattle.der_codec.proofs.Keeping.{enough_less, enough_then, behind_is, err_as, not_ok}
-use Rattle.der_codec.proofs.KeptRuns.{keeps_begin, fresh_holds}
-use Rattle.der_codec.proofs.Runs.{run_low, run_some}
-use Rattle.der_codec.proofs.UsualFed.{fed_as, none_front_as, some_taken}
+use Rattle.der_codec.proofs.KeptRuns.{keeps_begin}
+use Rattle.der_codec.proofs.Runs.{run_some}
+use Rattle.der_codec.proofs.UsualFed.{some_taken}
 use Rattle.der_codec.proofs.checker.DerChecker.take_shown.Goals as goal
 
 pub run_kept-requires-clause-given : goal.run_kept-requires-clause-given

@@ -1,28 +1,20 @@
-use Rattle.std.proofs.Common.{◌∷◌, refl, arith}
+use Rattle.std.proofs.Common.{arith}
 use Rattle.fragments.specs.Fragment.{fragment}
 use Rattle.der_model.specs.DerMessage.{der_message}
-use Rattle.der_codec.specs.Levels.{inwards, rest_of}
-use Rattle.der_codec.proofs.Counted.{count_below}
-use Rattle.der_codec.proofs.Runs.{run_passes, passed_run}
+use Rattle.der_codec.proofs.Runs.{few_in_run, run_passes, passed_run}
 use Rattle.der_codec.proofs.decoder.Decoder.begin_leaf.Goals as goal
 
 pub pass_leaf-requires-clause-few : goal.pass_leaf-requires-clause-few
 pass_leaf-requires-clause-few c =
-    let s = c.args.self.now in
-    let run = c.args.run.now in
     let r = c.requires.read in
     let room = c.requires.room in
-    let low = count_below (der_message c.args.model.now) (run.level ∷ rest_of (inwards s.levels.items)) run.level s.due run.place run.place r.0 r.1 refl in
-    omega arith
+    few_in_run (der_message c.args.model.now) c.args.self.now c.args.run.now r.0 (omega (arith, room)) r.1
 
 pub pass_leaf-requires-in-Begins-clause-few : goal.pass_leaf-requires-in-Begins-clause-few
 pass_leaf-requires-in-Begins-clause-few c =
-    let s = c.args.self.now in
-    let run = c.args.run.now in
     let r = c.requires.read in
     let room = c.requires.room in
-    let low = count_below (der_message c.args.model.now) (run.level ∷ rest_of (inwards s.levels.items)) run.level s.due run.place run.place r.0 r.1 refl in
-    omega arith
+    few_in_run (der_message c.args.model.now) c.args.self.now c.args.run.now r.0 (omega (arith, room)) r.1
 
 pub returns-in-Some-clause-ok : goal.returns-in-Some-clause-ok
 returns-in-Some-clause-ok c = λ bytes r.

@@ -1,20 +1,18 @@
-use Rattle.std.proofs.Common.{refl, arith}
+use Rattle.std.proofs.Common.{arith}
 use Rattle.fragments.specs.Fragment.{fragment}
 use Rattle.der_model.specs.DerMessage.{der_message}
-use Rattle.der_codec.specs.Levels.{inwards}
-use Rattle.der_codec.specs.inner.KeptRuns.{decoder_at}
-use Rattle.der_codec.proofs.Counted.{count_below}
-use Rattle.der_codec.proofs.KeptRuns.{first_at, begun_at}
+use Rattle.der_codec.proofs.KeptRuns.{run_reads, begun_at}
+use Rattle.der_codec.proofs.Runs.{few_in_run}
 use Rattle.der_codec.proofs.decoder.Decoder.begun_as.Goals as goal
 
 pub advanced-requires : goal.advanced-requires
 advanced-requires c =
+    let m = der_message c.args.model.now in
     let s = c.args.self.now in
     let run = c.args.run in
     let r = c.requires.read in
     let room = c.requires.room in
-    let low = count_below (der_message c.args.model.now) (inwards (decoder_at s run).levels.items) run.level s.due run.place run.place r.0 r.1 (first_at s run c.requires.some) in
-    omega arith
+    few_in_run m s run r.0 (omega (arith, room)) (run_reads m s run r.0 c.requires.some r.1)
 
 pub returns-else-level-end : goal.returns-else-level-end
 returns-else-level-end c = record {

@@ -1,21 +1,16 @@
-use Rattle.std.proofs.Common.{◌≡◌, ◌+◌, ◌∷◌, length, take, refl, sym, subst, arith}
+use Rattle.std.proofs.Common.{◌≡◌, ◌+◌, length, take, sym, subst, arith}
 use Rattle.std.proofs.lemmas.List.{length-take-le}
 use Rattle.fragments.specs.Fragment.{fragment}
 use Rattle.der_model.specs.DerMessage.{der_message}
-use Rattle.der_codec.specs.Levels.{inwards, rest_of}
 use Rattle.der_codec.specs.inner.Runs.{EntersRun}
-use Rattle.der_codec.proofs.Counted.{count_below}
-use Rattle.der_codec.proofs.Runs.{wide_enters}
+use Rattle.der_codec.proofs.Runs.{few_in_run, wide_enters}
 use Rattle.der_codec.proofs.decoder.Decoder.enter_wide.Goals as goal
 
 pub enter_behind-requires-clause-few : goal.enter_behind-requires-clause-few
 enter_behind-requires-clause-few c =
-    let s = c.args.self.now in
-    let run = c.args.run.now in
     let r = c.requires.read in
     let room = c.requires.room in
-    let low = count_below (der_message c.args.model.now) (run.level ∷ rest_of (inwards s.levels.items)) run.level s.due run.place run.place r.0 r.1 refl in
-    omega arith
+    few_in_run (der_message c.args.model.now) c.args.self.now c.args.run.now r.0 (omega (arith, room)) r.1
 
 pub returns-then-enter_behind-clause-ok : goal.returns-then-enter_behind-clause-ok
 returns-then-enter_behind-clause-ok c = λ bytes r.
