@@ -34,7 +34,7 @@ use Rattle.der_codec.specs.declared.level.Spot.{Spot}
 use Rattle.der_codec.specs.declared.usual.Run.{Run}
 use Rattle.der_codec.proofs.Inwards.{set_inwards}
 use Rattle.der_codec.proofs.Keeping.{keeping_as, grows_same, enough_then}
-use Rattle.der_codec.proofs.LastSpots.{last_begun_spot}
+use Rattle.der_codec.proofs.LastSpots.{last_begun_spot, last_open_spot}
 use Rattle.der_codec.proofs.RoomSteps.{begun_enough, leaf_enough, value_end_enough}
 use Rattle.der_codec.proofs.Runs.{run_begins, first_rest, fresh_is, fresh_start, begun}
 use Rattle.der_codec.proofs.ShownFed.{end_open, end_shown, value_ends}
@@ -202,6 +202,11 @@ ends_enough T c run new after bytes e h =
     let m = der_message T in
     value_end_enough T (checker_at c run) (decoder_at new after) bytes e.here.0 e.read e.here.1
     (value_ends m (decoder_at c.decoder run) (decoder_at new after) bytes e.fresh (fresh_after c new e.fresh e.same) (fewer_at c.decoder new run after e.one) e.here.0 e.read) (enough_at T c run bytes h)
+
+-- it is the last component of that round it
+pub last_ended : (m : DerMessage ℕ) (d : Decoder) (run : Run) (new : Decoder) (after : Run) (bytes : List ℕ) → 0 < length d.levels.items → IsFresh d.due → after.level ∷ rest_of (inwards new.levels.items) ≡ rest_of (inwards d.levels.items) → HasReadParts m (decoder_at d run) bytes → IsLastSpot m after.level run.level.spot
+last_ended m d run new after bytes some fresh levels r =
+    last_open_spot m run.level after.level (rest_of (inwards new.levels.items)) d.due run.place run.place bytes fresh (subst (λ z. Reads m (run.level ∷ z) d.due run.place run.place bytes) (sym levels) (run_reads m d run bytes some r))
 
 -- ---- what stays
 

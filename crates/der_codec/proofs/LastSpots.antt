@@ -14,10 +14,11 @@ use Rattle.der_model.specs.States.{Part, Identifier, Length, End, part_octets, S
 use Rattle.der_model.specs.Faults.{DerFront, IsCleanPart}
 use Rattle.der_model.specs.OpenParts.{components_of}
 use Rattle.der_model.specs.ShownPieces.{slot_elements, last_elements}
-use Rattle.der_codec.specs.Decoding.{IsOpenState, Reads}
+use Rattle.der_codec.specs.Decoding.{IsOpenState, IsFresh, Reads}
 use Rattle.der_codec.specs.KeptPieces.{AreLast, IsLastOf, IsLastSpot}
 use Rattle.der_codec.specs.Levels.{IsSpot}
 use Rattle.der_codec.specs.inner.Elements.{has_slots}
+use Rattle.der_codec.specs.declared.decoder.Due.{Due}
 use Rattle.der_codec.specs.declared.decoder.Due.TheVariants as due
 use Rattle.der_codec.specs.declared.level.Spot.{Spot}
 use Rattle.der_codec.specs.declared.level.Spot.TheVariants as spots
@@ -27,33 +28,59 @@ use Rattle.der_codec.proofs.RoomSteps.{last_same}
 
 -- ---- behind clean parts
 
--- the value of which the length is due is the component that came last
-abbrev BeginsLast : DerMessage ℕ → State ℕ → Type 0
-BeginsLast m (AwaitsLength constructed spot names (l ∷ around)) = IsLastOf (components_of (structure m l.spot)) l.came spot
-BeginsLast m s = Unit {0}
+-- the value at the spot is the component that came last in the innermost of these, and each of them so in the one round it
+abbrev CameLast : DerMessage ℕ → structures.Spot ℕ → List (states.DerLevel ℕ) → Type 0
+CameLast m spot [] = Unit {0}
+CameLast m spot (l ∷ around) = IsLastOf (components_of (structure m l.spot)) l.came spot × CameLast m l.spot around
 
-step_last : (m : DerMessage ℕ) (s : State ℕ) (place : ℕ) (p : Part) → Stands s place p → IsCleanPart m s place p → BeginsLast m (state_after m s place p)
-step_last m Start place (Identifier b t) st c = tt
-step_last m (Within (l ∷ ls)) place (Identifier b t) st (k, c, e) =
-    subst (BeginsLast m) (ap (begun_state m l ls b) (sym e)) (c, begins_at (structure m l.spot) l.came b t k c e, refl)
-step_last m (AwaitsLength true spot names around) place (Length n) st c = tt
-step_last m (AwaitsLength false spot names around) place (Length n) st c = tt
-step_last m (AwaitsContents spot names count around) place (states.Contents octets) st c = tt
-step_last m (Within (l ∷ ls)) place End st c = tt
-step_last m s place p st c = absurd st
+abbrev AreLastOpen : DerMessage ℕ → List (states.DerLevel ℕ) → Type 0
+AreLastOpen m [] = Unit {0}
+AreLastOpen m (l ∷ around) = CameLast m l.spot around
+
+-- what has begun and not ended came last in what is round it
+abbrev BeginsLast : DerMessage ℕ → State ℕ → Type 0
+BeginsLast m Start = Unit {0}
+BeginsLast m (AwaitsLength constructed spot names around) = CameLast m spot around
+BeginsLast m (AwaitsContents spot names count around) = CameLast m spot around
+BeginsLast m (Within levels) = AreLastOpen m levels
+
+around_last : (m : DerMessage ℕ) (spot : structures.Spot ℕ) (ls : List (states.DerLevel ℕ)) → CameLast m spot ls → AreLastOpen m ls
+around_last m spot [] h = tt
+around_last m spot (l ∷ ls) h = h.1
+
+step_last : (m : DerMessage ℕ) (s : State ℕ) (place : ℕ) (p : Part) → BeginsLast m s → Stands s place p → IsCleanPart m s place p → BeginsLast m (state_after m s place p)
+step_last m Start place (Identifier b t) h st c = tt
+step_last m (Within (l ∷ ls)) place (Identifier b t) h st (k, c, e) =
+    subst (BeginsLast m) (ap (begun_state m l ls b) (sym e)) ((c, begins_at (structure m l.spot) l.came b t k c e, refl), h)
+step_last m (AwaitsLength true spot names around) place (Length n) h st c = h
+step_last m (AwaitsLength false spot names around) place (Length n) h st c = h
+step_last m (AwaitsContents spot names count around) place (states.Contents octets) h st c = around_last m spot around h
+step_last m (Within (l ∷ ls)) place End h st c = around_last m l.spot ls h
+step_last m s place p h st c = absurd st
 
 front_last : (m : DerMessage ℕ) (s : State ℕ) (place : ℕ) (bytes : List ℕ) (ps : List Part) (last : State ℕ) (at : ℕ) (rest : List ℕ) → BeginsLast m s → DerFront m s place bytes ps last at rest → BeginsLast m last
 front_last m s place bytes [] last at rest h (p, q, r) = subst (BeginsLast m) p h
-front_last m s place bytes (p ∷ ps) last at rest h (after, is, st, u, c, f) = front_last m (state_after m s place p) (place + length (part_octets p)) after ps last at rest (step_last m s place p st c) f
+front_last m s place bytes (p ∷ ps) last at rest h (after, is, st, u, c, f) = front_last m (state_after m s place p) (place + length (part_octets p)) after ps last at rest (step_last m s place p h st c) f
 
 -- the value that has begun is the component that came last in the value round it
 pub last_begun_spot : (m : DerMessage ℕ) (x : Level) (xs : List Level) (constructed : Bool) (spot : Spot) (step : LengthStep) (start place : ℕ) (bytes : List ℕ) → Reads m (x ∷ xs) (due.Length constructed spot step) start place bytes → IsLastSpot m x spot
 last_begun_spot m x xs constructed spot step start place bytes r = by r.state r.is_open (front_last m Start 0 bytes r.parts r.state r.at r.rest tt r.front)
   where
     by : (s : State ℕ) → IsOpenState m (x ∷ xs) (due.Length constructed spot step) s → BeginsLast m s → IsLastSpot m x spot
-    by (AwaitsLength b of names (l ∷ ls)) op h = (l, op.2.0, of, op.1, h)
+    by (AwaitsLength b of names (l ∷ ls)) op h = (l, op.2.0, of, op.1, h.0)
     by (AwaitsLength b of names []) op h = absurd op.2
     by s op h = absurd op
+
+-- so is the innermost value that is open
+pub last_open_spot : (m : DerMessage ℕ) (x y : Level) (xs : List Level) (d : Due) (start place : ℕ) (bytes : List ℕ) → IsFresh d → Reads m (x ∷ y ∷ xs) d start place bytes → IsLastSpot m y x.spot
+last_open_spot m x y xs d start place bytes fresh r = by d fresh r.state r.is_open (front_last m Start 0 bytes r.parts r.state r.at r.rest tt r.front)
+  where
+    by : (d : Due) → IsFresh d → (s : State ℕ) → IsOpenState m (x ∷ y ∷ xs) d s → BeginsLast m s → IsLastSpot m y x.spot
+    by (due.Tag step) f Start op h = absurd cc
+    by (due.Tag step) f (Within (l ∷ k ∷ ls)) op h = (k, op.1.0, l.spot, op.0.spot, h.0)
+    by (due.Tag step) f (Within (l ∷ [])) op h = absurd op.1
+    by (due.Tag step) f s op h = absurd op
+    by d f s op h = absurd f
 
 -- ---- its element
 

@@ -42,14 +42,6 @@ front_as T old mid new piece result given t = record {
   within = t.within;
 }
 
--- no byte is taken
-pub none_front_as : (T : Tables) (old new : DerChecker) (piece : List ℕ) → ((bytes : List ℕ) → HasFedDer old T bytes → HasFedDer new T bytes) → TakesDerFront T old new piece (Ok 0)
-none_front_as T old new piece given = record {
-  ok = λ bytes h. subst (HasFedDer new T) (sym (append-nil bytes)) (given bytes h);
-  err = λ bytes h. tt;
-  within = omega arith;
-}
-
 -- so many bytes are taken, and the values end behind them
 pub usual_taken : (T : Tables) (old mid new : DerChecker) (piece : List ℕ) (n : ℕ) → n ≤ length piece → der_bytes_fed old + length piece ≤ 2 ^ 40 → mid.failed ≡ old.failed → new.failed ≡ mid.failed
     → ((bytes : List ℕ) → HasReadParts (der_message T) old.decoder bytes → HasReadParts (der_message T) mid.decoder (bytes ++ take n piece)) → mid.pieces ≡ None

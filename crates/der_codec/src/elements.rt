@@ -356,3 +356,22 @@ pub(crate) fn end_component(
         Some(level) => end_elements(builder, &last_begun(model, &level)),
     }
 }
+
+/// The elements end that ended with a value at this spot, which is the last component of the innermost one.
+#[inline(always)]
+pub(crate) fn end_last(
+    builder: &mut Builder,
+    model: &Model,
+    around: &Level,
+    spot: Spot,
+) -> Result<(), AllocError>
+    requires last { IsLastSpot (der_message model.now) around.now spot }
+    requires around { (xs : List Level) × (ls : List (states.DerLevel ℕ)) × (Some around.now ≡ first_of xs) × AreLevels (types_of model.now) xs ls × (open_in builder.old.pieces ≡ elements_around (der_message model.now) ls) }
+    ensures ended { (xs : List Level) (ls : List (states.DerLevel ℕ)) → Some around.now ≡ first_of xs → AreLevels (types_of model.now) xs ls → open_in builder.old.pieces ≡ elements_around (der_message model.now) ls
+        → OnOk result (builder.new.pieces ≡ builder.old.pieces ++ end_each (elements_ended (der_message model.now) ls)) }
+    ensures room { GrowsRoom (Some builder.old) (Some builder.new) }
+    ensures within { (xs : List Level) (ls : List (states.DerLevel ℕ)) → Some around.now ≡ first_of xs → AreLevels (types_of model.now) xs ls → HoldsMore builder.old (end_each (elements_ended (der_message model.now) ls)) → IsOk result }
+{
+    let begun = begun_with(model, around, spot);
+    end_elements(builder, &begun)
+}

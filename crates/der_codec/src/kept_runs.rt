@@ -253,10 +253,12 @@ impl DerChecker {
         ensures stays { StaysInRun model.now self.old self.new }
         ensures memory { (bytes : List ℕ) → RunKeeps model.now self.old run.old bytes → HasEnough self.old model.now bytes → IsOk result }
     {
+        let ended = run.level;
         if !self.decoder.end_inner(run, model) {
             return Ok(false);
         }
-        match end_last(&mut self.pieces, model, run.level) {
+        let around = run.level;
+        match end_last(&mut self.pieces, model, &around, ended.spot) {
             Ok(()) => Ok(true),
             Err(error) => Err(error),
         }

@@ -58,23 +58,25 @@ pub(crate) fn end(
     }
 }
 
-/// The elements end that end with the last component of a value, which is the innermost one.
+/// The elements end that end with a value at this spot, which is the last component of the innermost one.
 #[inline(always)]
 pub(crate) fn end_last(
     pieces: &mut Option<Builder>,
     model: &Model,
-    around: Level,
+    around: &Level,
+    spot: Spot,
 ) -> Result<(), AllocError>
-    requires { (xs : List Level) × (ls : List (states.DerLevel ℕ)) × (Some around ≡ first_of xs) × AreLevels (types_of model.now) xs ls × AreOpen pieces.old (elements_around (der_message model.now) ls) }
-    ensures ended { (xs : List Level) (ls : List (states.DerLevel ℕ)) → Some around ≡ first_of xs → AreLevels (types_of model.now) xs ls → AreOpen pieces.old (elements_around (der_message model.now) ls)
+    requires last { IsLastSpot (der_message model.now) around.now spot }
+    requires around { (xs : List Level) × (ls : List (states.DerLevel ℕ)) × (Some around.now ≡ first_of xs) × AreLevels (types_of model.now) xs ls × AreOpen pieces.old (elements_around (der_message model.now) ls) }
+    ensures ended { (xs : List Level) (ls : List (states.DerLevel ℕ)) → Some around.now ≡ first_of xs → AreLevels (types_of model.now) xs ls → AreOpen pieces.old (elements_around (der_message model.now) ls)
         → OnOk result (PiecesGoOn pieces.old pieces.new (end_each (elements_ended (der_message model.now) ls))) }
     ensures room { GrowsRoom pieces.old pieces.new }
     ensures alone { StaysAlone pieces.old pieces.new }
-    ensures within { (xs : List Level) (ls : List (states.DerLevel ℕ)) → Some around ≡ first_of xs → AreLevels (types_of model.now) xs ls → HoldMore pieces.old (end_each (elements_ended (der_message model.now) ls)) → IsOk result }
+    ensures within { (xs : List Level) (ls : List (states.DerLevel ℕ)) → Some around.now ≡ first_of xs → AreLevels (types_of model.now) xs ls → HoldMore pieces.old (end_each (elements_ended (der_message model.now) ls)) → IsOk result }
 {
     match pieces {
         None => Ok(()),
-        Some(builder) => end_component(builder, model, Some(around)),
+        Some(builder) => elements::end_last(builder, model, around, spot),
     }
 }
 

@@ -403,6 +403,7 @@ impl Decoder {
         ensures open { 0 < length self.new.levels.items }
         ensures less { result ≡ true → length self.new.levels.items < length self.old.levels.items }
         ensures one { result ≡ true → length self.new.levels.items + 1 ≡ length self.old.levels.items }
+        ensures levels { result ≡ true → run.new.level ∷ rest_of (inwards self.new.levels.items) ≡ rest_of (inwards self.old.levels.items) }
         ensures kept { result ≡ false → self.new ≡ self.old }
         ensures stays { result ≡ false → run.new ≡ run.old }
         ensures room { vec_capacity self.old.levels ≤ vec_capacity self.new.levels }

@@ -4,7 +4,7 @@ use Rattle.der_codec.specs.KeptPieces.{around_of}
 use Rattle.der_codec.specs.Levels.{inwards}
 use Rattle.der_codec.specs.inner.KeptRuns.{decoder_at}
 use Rattle.der_codec.proofs.Keeping.{keeping_as, grows_same}
-use Rattle.der_codec.proofs.KeptRuns.{ends_in, first_at, ends_open, ends_shown, ends_enough, keeps_as}
+use Rattle.der_codec.proofs.KeptRuns.{last_ended, ends_in, first_at, ends_open, ends_shown, ends_enough, keeps_as}
 use Rattle.der_codec.proofs.ShownSteps.{levels_open}
 use Rattle.der_codec.proofs.checker.DerChecker.end_within.Goals as goal
 
@@ -23,8 +23,16 @@ returns-then-not-end_inner-clause-stays c = record {
   alone = λ none. none;
 }
 
-pub end_last-requires : goal.end_last-requires
-end_last-requires c =
+pub end_last-requires-clause-last : goal.end_last-requires-clause-last
+end_last-requires-clause-last c =
+    let s = c.args.self.now in
+    let run = c.args.run.now in
+    let after = c.end_inner.new.run in
+    let g = c.requires.given in
+    last_ended (der_message c.args.model.now) s.decoder run c.end_inner.new.self after g.0 c.requires.some c.requires.fresh (c.if-not-end_inner.ensures.levels refl) g.1.0
+
+pub end_last-requires-clause-around : goal.end_last-requires-clause-around
+end_last-requires-clause-around c =
     let T = c.args.model.now in
     let m = der_message T in
     let s = c.args.self.now in
