@@ -103,10 +103,10 @@ fn push_begin<O: Sink>(
     ensures { Pushes O.held O.faults O.room sink.old sink.new result (piece_octets (types_of model.now) (before_place instance.now.region.pieces at) (Begins (edge_of edge)) (len_kept (types_of model.now) (Begins (edge_of edge)) (slice_get instance.now.region.pieces (at + 1)) instance.now.lens left) (slice_index instance.now.groups (left - 1))) }
 {
     let next = next_at(instance, at);
+    let size = begun_size(model, instance, edge, at, left);
     if let Err(error) = push_slots(model, edge.parent, next, edge.slot, sink) {
         return Err(error);
     }
-    let size = begun_size(model, instance, edge, at, left);
     push_opening(model, instance, next, edge, size, left, sink)
 }
 
@@ -261,10 +261,11 @@ fn push_pieces<O: Sink>(
     let mut left = kept;
     let count = instance.count();
     for at in 0..count {
+        let behind = left_after(model, instance, at, left);
         if let Err(error) = gather_at(model, instance, at, left, &mut buffer, sink) {
             return Err(error);
         }
-        left = left_after(model, instance, at, left);
+        left = behind;
     }
     push_rest(model, next_at(instance, count), buffer, sink)
 }

@@ -28,9 +28,9 @@ loop-at-preserved g c =
     let place : c.loop-at.at < length held.region.pieces = omega (arith, count, some) in
     let behind = λ (n : _). c.gather_at.new.buffer ++ pieces_octets types (before_place held.region.pieces (c.loop-at.at + 1)) (drop (c.loop-at.at + 1) held.region.pieces) held.lens held.groups n in
     let few = c.loop-at.invariant.few in
-    let fewer = c.left_after-left.ensures.few in
+    let fewer = c.left_after-behind.ensures.few in
     record {
-      pushed = subst (λ n. IsPushedTo g.O.Sink.held g.O.Sink.faults g.O.Sink.room c.args.sink.now c.gather_at.new.sink (pieces_octets types (Begun document_edge) held.region.pieces held.lens held.groups c.args.kept) (behind n)) (sym c.left_after-left.ensures.left)
+      pushed = subst (λ n. IsPushedTo g.O.Sink.held g.O.Sink.faults g.O.Sink.room c.args.sink.now c.gather_at.new.sink (pieces_octets types (Begun document_edge) held.region.pieces held.lens held.groups c.args.kept) (behind n)) (sym c.left_after-behind.ensures.left)
           (to_gathered g.O.Sink.held g.O.Sink.faults g.O.Sink.room _ _ _ _ _ c.loop-at.buffer c.gather_at.new.buffer _ _ (octets_on types held c.loop-at.at c.loop-at.left place) c.loop-at.invariant.pushed c.in_default.ensures);
       few = omega (arith, few, fewer);
     }
