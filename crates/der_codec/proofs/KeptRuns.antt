@@ -1,5 +1,5 @@
 -- Runs of components where pieces are kept.
-use Rattle.std.specs.Prelude.{slice_set, vec_capacity}
+use Rattle.std.specs.Prelude.{slice_set}
 use Rattle.std.proofs.Common.{◌≡◌, ℕ, zero, suc, ◌+◌, ◌-◌, ◌<◌, ◌≤◌, true, false, List, [], ◌∷◌, ◌++◌, length, take, Option, Some, refl, sym, ap, ◌∙◌, subst, arith}
 use Rattle.data_types.specs.Leaf.{Leaf}
 use Rattle.der_octets.specs.TagSteps.{tag_view}
@@ -11,13 +11,11 @@ use Rattle.der_model.specs.States as states
 use Rattle.der_model.specs.States.{level_answer}
 use Rattle.der_model.specs.ShownPieces.{end_each, elements_ended}
 use Rattle.der_model.specs.NestedPieces.{elements_around}
-use Rattle.der_codec.specs.Checking.{KeepsContents}
 use Rattle.der_codec.specs.Components.{IsFound}
 use Rattle.der_codec.specs.Decoding.{Reads, HasReadParts, IsFresh, IsFreshOrOver, IsBelowEnd, IsAdvanced, end_of_first, level_at}
 use Rattle.der_codec.specs.Judging.{HoldsContents}
 use Rattle.der_codec.specs.KeptPieces.{KeepsShown, GoOnByBegun, GoesOnByLast, HoldsLeafAt, IsLastSpot, PiecesGoOn, AreOpen, around_of}
 use Rattle.der_codec.specs.Levels.{IsLevel, inwards, first_of, rest_of}
-use Rattle.der_codec.specs.OpenLeaves.{HoldsNothing}
 use Rattle.der_codec.specs.Reserved.{HasEnough, HoldMore, HoldBegun, HoldLeafWithin}
 use Rattle.der_codec.specs.inner.Entering.{HasBegunComponent, StandsFirst}
 use Rattle.der_codec.specs.inner.KeptRuns.{run_at, decoder_at, checker_at, RunKeeps, StaysInRun}
@@ -28,7 +26,6 @@ use Rattle.der_codec.specs.declared.components.Found.TheVariants as found
 use Rattle.der_codec.specs.declared.decoder.Decoder.{Decoder}
 use Rattle.der_codec.specs.declared.decoder.Due.{Due}
 use Rattle.der_codec.specs.declared.decoder.Due.TheVariants as due
-use Rattle.der_codec.specs.declared.held.Held.{Held}
 use Rattle.der_codec.specs.declared.level.Level.{Level}
 use Rattle.der_codec.specs.declared.level.Spot.{Spot}
 use Rattle.der_codec.specs.declared.usual.Run.{Run}
@@ -231,16 +228,6 @@ stays_then T old mid new a b = record {
   alone = λ none. b.alone (a.alone none);
 }
 
-pub stays_left : (T : Tables) (old mid : DerChecker) (d : Decoder) → d.due ≡ mid.decoder.due → vec_capacity mid.decoder.levels ≤ vec_capacity d.levels → StaysInRun T old mid → StaysInRun T old (record mid { decoder = d })
-stays_left T old mid d same room a = record {
-  kept = a.kept;
-  sound = a.sound;
-  room = a.room;
-  due = same ∙ a.due;
-  keeps = λ k. keeping_as T mid (record mid { decoder = d }) refl room (omega arith) (λ bytes h. h) (grows_same mid.pieces) (a.keeps k);
-  alone = a.alone;
-}
-
 -- ---- at the end of a run
 
 pub run_kept_left : (T : Tables) (c : DerChecker) (run : Run) (new : Decoder) (bytes piece : List ℕ) (n taken : ℕ) → n ≡ taken → 0 < length c.decoder.levels.items → inwards new.levels.items ≡ run.level ∷ rest_of (inwards c.decoder.levels.items) → new.place ≡ run.place → new.start ≡ run.place → new.due ≡ c.decoder.due
@@ -248,8 +235,3 @@ pub run_kept_left : (T : Tables) (c : DerChecker) (run : Run) (new : Decoder) (b
 run_kept_left T c run new bytes piece n taken size some levels placed started same k =
     let m = der_message T in
     subst (λ z. HasReadParts m new (bytes ++ take z piece) × KeepsShown m new c.pieces (bytes ++ take z piece)) (sym size) (keeps_left T c run new (bytes ++ take taken piece) some levels placed started same k)
-
--- where identifier octets are due, none of which has come, nothing is held of contents
-pub fresh_holds : (T : Tables) (d : Due) (pieces : Option Region) (start : ℕ) (bytes : List ℕ) (kept : Held) → IsFresh d → KeepsContents T d pieces start bytes kept → HoldsNothing kept
-fresh_holds T (due.Tag step) pieces start bytes kept fresh k = k
-fresh_holds T d pieces start bytes kept fresh k = absurd fresh

@@ -3,7 +3,6 @@ use Rattle.std.proofs.Common.{◌≡◌, ℕ, ◌+◌, Bool, false, List, [], �
 use Rattle.data_types.specs.Leaf.{Leaf}
 use Rattle.data_types.specs.Value.{Edge, Piece, Holds}
 use Rattle.der_octets.specs.TagSteps as tags
-use Rattle.der_octets.specs.declared.tag_step.Identifier as ids
 use Rattle.der_octets.specs.declared.tag_step.TagStep.{TagStep}
 use Rattle.der_octets.specs.declared.length_step.LengthStep.{LengthStep}
 use Rattle.inst_pool.specs.Pieces.{Region}
@@ -11,7 +10,7 @@ use Rattle.der_model.specs.DerMessage.{DerMessage}
 use Rattle.der_model.specs.ShownPieces.{begin_each, end_each, elements_ended}
 use Rattle.der_model.specs.States as states
 use Rattle.der_model.specs.States.{State, AwaitsLength}
-use Rattle.der_codec.specs.Decoding.{Reads, HasReadParts, IsOpenState, IsFresh, IsSettled, BeginsContents, HasIdentifier, due_depth, end_of_first, level_at}
+use Rattle.der_codec.specs.Decoding.{Reads, HasReadParts, IsOpenState, IsFresh, IsSettled, BeginsContents, due_depth, end_of_first, level_at}
 use Rattle.der_codec.specs.Judging.{HoldsContents}
 use Rattle.der_codec.specs.KeptPieces.{Shows, KeepsShown, PiecesGoOn, AreLast, GoOnByBegun, GoOnByLeaf, HoldsLeafAt, around_of, begun_pieces}
 use Rattle.der_codec.specs.Levels.{AreLevels, inwards, rest_of}
@@ -29,12 +28,6 @@ use Rattle.der_codec.proofs.ShownSteps.{shows_on, goes_same, levels_open, tag_ad
 use Rattle.der_codec.proofs.UsualSteps.{length_read}
 
 -- ---- what has been read
-
-pub identifier_due : (d : Due) (rest : List ℕ) (o : ℕ) (id : ids.Identifier) → HasIdentifier d rest o id → (step : TagStep) × (d ≡ due.Tag step)
-identifier_due (due.Tag step) rest o id has = (step, refl)
-identifier_due (due.Length c spot step) rest o id has = absurd has
-identifier_due (due.Contents spot left) rest o id has = absurd has
-identifier_due due.Over rest o id has = absurd has
 
 -- the header
 pub header_read : (m : DerMessage ℕ) (d new : Decoder) (b : Begun) (bytes : List ℕ) (o n : ℕ) → HasBegunComponent m d bytes o n b → new.place ≡ d.place + 2 → new.start ≡ d.place + 2

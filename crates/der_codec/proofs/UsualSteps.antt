@@ -1,6 +1,5 @@
 -- Headers of two octets, taken at once, and leaves with them.
-use Rattle.std.proofs.lemmas.List.{length-take-le, length-drop}
-use Rattle.std.proofs.Common.{◌≡◌, ℕ, zero, suc, ◌+◌, ◌<◌, ◌≤◌, ◌^◌, Bool, true, false, List, [], ◌∷◌, ◌++◌, length, take, drop, refl, sym, ap, ◌∙◌, arith, append_assoc, length-append}
+use Rattle.std.proofs.Common.{◌≡◌, ℕ, zero, suc, ◌+◌, ◌<◌, Bool, true, false, List, [], ◌∷◌, ◌++◌, take, drop, refl, sym, ap, ◌∙◌, arith, append_assoc}
 use Rattle.der_octets.specs.LengthSteps as lengths
 use Rattle.der_octets.specs.declared.length_step.LengthStep.{LengthStep}
 use Rattle.reference_check.specs.Words.{UpTo}
@@ -12,7 +11,6 @@ use Rattle.der_codec.specs.declared.decoder.Decoder.{Decoder}
 use Rattle.der_codec.specs.declared.decoder.Due.TheVariants as due
 use Rattle.der_codec.specs.declared.level.Spot.{Spot}
 use Rattle.der_codec.specs.declared.level.Level.{Level}
-use Rattle.der_codec.proofs.ContentsSteps.{place_counts}
 use Rattle.der_codec.proofs.StepTies.{reads_as, open_primitive, open_constructed, short_has}
 
 -- a length octet below 128 opens the value whose length is due
@@ -61,12 +59,3 @@ drop_then (suc n) k (x ∷ xs) = (let same : suc n + k ≡ suc (n + k) = omega a
 pub run_more : (bytes piece rest : List ℕ) (taken count : ℕ) → rest ≡ drop taken piece → (bytes ++ take taken piece) ++ take count rest ≡ bytes ++ take (taken + count) piece
 run_more bytes piece rest taken count is =
     append_assoc bytes (take taken piece) (take count rest) ∙ ap (λ z. bytes ++ z) (ap (λ z. take taken piece ++ take count z) is ∙ take_then taken count piece)
-
-pub run_room : (m : DerMessage ℕ) (old mid : Decoder) (bytes piece rest : List ℕ) (taken : ℕ) → rest ≡ drop taken piece → HasReadParts m old bytes → HasReadParts m mid (bytes ++ take taken piece) → taken ≤ length piece → old.place + length piece ≤ 2 ^ 40 → mid.place + length rest ≤ 2 ^ 40
-run_room m old mid bytes piece rest taken is r q within room =
-    let a = place_counts m (inwards old.levels.items) old.due old.start old.place bytes r in
-    let b = place_counts m (inwards mid.levels.items) mid.due mid.start mid.place (bytes ++ take taken piece) q in
-    let sum = length-append bytes (take taken piece) in
-    let front = length-take-le taken piece within in
-    let behind = ap length is ∙ length-drop taken piece in
-    omega (arith, a, b, sum, front, behind, within, room)

@@ -1,5 +1,5 @@
 -- A component in a run whose length has more octets than one, where pieces are kept.
-use Rattle.std.proofs.Common.{◌≡◌, ℕ, ◌+◌, ◌<◌, Bool, true, false, not, List, [], ◌∷◌, ◌++◌, length, take, Option, Some, None, refl, sym, ap, ◌∙◌, subst, arith, append_assoc}
+use Rattle.std.proofs.Common.{◌≡◌, ℕ, ◌+◌, ◌<◌, true, List, [], ◌∷◌, ◌++◌, length, take, Option, Some, None, refl, sym, ap, ◌∙◌, subst, arith, append_assoc}
 use Rattle.std.proofs.lemmas.List.{nil_from_length, length-take-le}
 use Rattle.der_octets.specs.TagSteps as tags
 use Rattle.der_octets.specs.declared.tag_step.TagStep.{TagStep}
@@ -31,10 +31,6 @@ use Rattle.der_codec.proofs.ShownSteps.{shows_on, goes_same, lengths_add}
 use Rattle.der_codec.proofs.ShownUsual.{identifier_shown, shows_as}
 use Rattle.der_codec.proofs.StepTies.{reads_as}
 use Rattle.der_codec.proofs.UsualSteps.{front_more as two_more}
-
-pub not_other : (b : Bool) → not b ≡ false → b ≡ true
-not_other true e = refl
-not_other false e = absurd cc
 
 -- ---- which pieces are shown with length octets: none
 

@@ -10,7 +10,7 @@ use Rattle.message_model.specs.Admits.{AdmitsAs}
 use Rattle.message_model.specs.Sound.{HasRoot}
 use Rattle.message_model.specs.Tables.{Tables, types_of, edge_at, pieces_of}
 use Rattle.der_model.specs.DerMessage.{DerMessage, der_message}
-use Rattle.der_writer.specs.Measured.{Beside, Free, Sized, Counts, counts_of, is_plain, value_counts, child_counts, AreKept, HasCounts}
+use Rattle.der_writer.specs.Measured.{Beside, Free, Sized, Counts, counts_of, is_plain, value_counts, child_counts, ArePairsKept, HasCounts}
 use Rattle.der_writer.specs.inner.PieceOctets.{Begun, document_edge}
 use Rattle.der_writer.specs.inner.Passes.{stage}
 use Rattle.der_writer.specs.inner.Measuring.{Knows}
@@ -32,7 +32,7 @@ free_before [] h = refl
 free_before (c ∷ cs) h = h
 
 -- there are fewer pairs than pieces
-fewer : (held : Held) (n : ℕ) (bs : List Beside) → EndsFree bs → AreKept held n bs → 0 < length bs → n < length bs
+fewer : (held : Held) (n : ℕ) (bs : List Beside) → EndsFree bs → ArePairsKept held n bs → 0 < length bs → n < length bs
 fewer held n [] h k l = absurd (omega (arith, l))
 fewer held n (Free ∷ []) h k l = (let few = kept_few held n [] k in omega (arith, few))
 fewer held n (Sized len ∷ []) h k l = absurd cc
@@ -66,7 +66,7 @@ has_counts T v mid new kept ended sum root admits is same known size lens groups
       let some = subst (λ r. 0 < length r.pieces) same l in
       let long = (value_beside T 0 v).0 in
       let all : length mid.region.pieces ≡ length (pieces_of fragment T v) = ap (λ r. length r.pieces) (sym same) ∙ ap length is in
-      let numbers : AreKept mid kept (value_counts (der_message T) 0 v) = subst (AreKept mid kept) (whole_staged T v root admits) known.numbers in
+      let numbers : ArePairsKept mid kept (value_counts (der_message T) 0 v) = subst (ArePairsKept mid kept) (whole_staged T v root admits) known.numbers in
       let some_counts : 0 < length (value_counts (der_message T) 0 v) = omega (arith, some, long, all) in
       let few = fewer mid kept (value_counts (der_message T) 0 v) (value_free (der_message T) 0 v) numbers some_counts in
       let last = length mid.region.pieces - 1 in
@@ -79,7 +79,7 @@ has_counts T v mid new kept ended sum root admits is same known size lens groups
       let low : last < length mid.groups = omega (arith, some, size.1) in
       let pairs : slice_index new.groups (length new.region.pieces - 1) ≡ kept =
       ap (λ r. slice_index new.groups (length r.pieces - 1)) same ∙ (ap (λ z. slice_index z last) (groups some) ∙ index_set mid.groups last kept low) in
-      subst (λ n. AreKept new n (value_counts (der_message T) 0 v)) (sym pairs) (kept_same last mid new kept (value_counts (der_message T) 0 v) but before numbers);
+      subst (λ n. ArePairsKept new n (value_counts (der_message T) 0 v)) (sym pairs) (kept_same last mid new kept (value_counts (der_message T) 0 v) but before numbers);
   whole = λ l.
       let some = subst (λ r. 0 < length r.pieces) same l in
       let last = length mid.region.pieces - 1 in

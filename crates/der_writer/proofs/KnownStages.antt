@@ -10,7 +10,7 @@ use Rattle.facets.specs.declared.simple.Simple.{Simple}
 use Rattle.inst_pool.specs.Pieces.{Held, piece_bytes, bytes_of}
 use Rattle.reference_check.specs.Forms.{Graph}
 use Rattle.der_model.proofs.BegunSlots.{drop_get}
-use Rattle.der_writer.specs.Measured.{Beside, Free, Sized, Counts, counts_of, AreKept}
+use Rattle.der_writer.specs.Measured.{Beside, Free, Sized, Counts, counts_of, ArePairsKept}
 use Rattle.der_writer.specs.inner.PieceOctets.{Begun, Filled, Ended, before_of, plain_edge}
 use Rattle.der_writer.specs.inner.Passes.{Frame, Stage, following, innermost_frame, piece_step, stage}
 use Rattle.der_writer.proofs.PlainHeads.{no_other}
@@ -36,7 +36,7 @@ pub record SameBut (place : ℕ) (old new : Held) : Type 0 where
   pub groups : (q : ℕ) → q ≢ place → slice_index new.groups q ≡ slice_index old.groups q
 
 -- pairs of numbers stay where the place is behind them
-pub kept_same : (place : ℕ) (old new : Held) (n : ℕ) (bs : List Beside) → SameBut place old new → n ≤ place → AreKept old n bs → AreKept new n bs
+pub kept_same : (place : ℕ) (old new : Held) (n : ℕ) (bs : List Beside) → SameBut place old new → n ≤ place → ArePairsKept old n bs → ArePairsKept new n bs
 kept_same place old new zero [] s l k = tt
 kept_same place old new (suc n) [] s l k = absurd k
 kept_same place old new n (Free ∷ bs) s l k = kept_same place old new n bs s l k
@@ -86,13 +86,13 @@ get_drop_some (x ∷ ps) qs zero p e = (let h : x ≡ p = cc in ap (λ z. Some z
 get_drop_some (x ∷ ps) qs (suc at) p e = get_drop_some ps qs at p e
 
 -- what follows is known by the last pair of numbers
-pub following_is : (g : Graph ℕ Simple) (held : Held) (at kept k : ℕ) (bs : List Beside) → AreBeside g (drop at held.region.pieces) bs → AreKept held kept bs → following (drop at held.region.pieces) bs k ≡ following_at g held at kept k
+pub following_is : (g : Graph ℕ Simple) (held : Held) (at kept k : ℕ) (bs : List Beside) → AreBeside g (drop at held.region.pieces) bs → ArePairsKept held kept bs → following (drop at held.region.pieces) bs k ≡ following_at g held at kept k
 following_is g held at kept k bs are numbers = go kept (drop at held.region.pieces) bs refl are numbers
   where
     there : (n : ℕ) (ps : List Piece) (p : Piece) → drop at held.region.pieces ≡ p ∷ ps → following_piece g (Some p) (slice_index held.groups n) k ≡ following_at g held at (suc n) k
     there n ps p e = ap (λ z. following_piece g z (slice_index held.groups n) k) (sym (get_drop_some held.region.pieces ps at p e))
 
-    go : (n : ℕ) (ps : List Piece) (bs : List Beside) → drop at held.region.pieces ≡ ps → AreBeside g ps bs → AreKept held n bs → following ps bs k ≡ following_at g held at n k
+    go : (n : ℕ) (ps : List Piece) (bs : List Beside) → drop at held.region.pieces ≡ ps → AreBeside g ps bs → ArePairsKept held n bs → following ps bs k ≡ following_at g held at n k
     go zero [] bs e are numbers = refl
     go (suc n) [] bs e are numbers = ap (λ z. following_piece g z (slice_index held.groups n) k) (sym (get_drop held.region.pieces at e))
     go n (p ∷ ps) [] e are numbers = absurd are
@@ -148,7 +148,7 @@ knows_begin false held new at kept ended less total sum s paired k less_is same 
     let all : kept ≤ kept = omega arith in
     record {
       total_is = (let t = k.total_is in omega (arith, e, t));
-      numbers = subst (λ n. AreKept new n (Counts len group ∷ s.beside)) (sym (add-one kept)) (l, g, kept_same kept held new kept s.beside same all k.numbers);
+      numbers = subst (λ n. ArePairsKept new n (Counts len group ∷ s.beside)) (sym (add-one kept)) (l, g, kept_same kept held new kept s.beside same all k.numbers);
       awaited = awaited_same kept held new less (drop 1 s.frames) same free (subst (λ n. AreAwaited held n (drop 1 s.frames)) (sym less_is) (awaited_behind held ended s.frames k.awaited));
       room = (let all = ap (λ r. length r.pieces) same.region in omega (arith, room, all, less_is));
     }

@@ -5,7 +5,7 @@ use Rattle.data_types.specs.Value.{Edge, Piece, Begins, Holds, Ends}
 use Rattle.facets.specs.declared.simple.Simple.{Simple}
 use Rattle.inst_pool.specs.Pieces.{Held, piece_bytes, bytes_of}
 use Rattle.reference_check.specs.Forms.{Graph}
-use Rattle.der_writer.specs.Measured.{Free, Counts, counts_of, AreKept}
+use Rattle.der_writer.specs.Measured.{Free, Counts, counts_of, ArePairsKept}
 use Rattle.der_writer.specs.inner.PieceOctets.{Before, Begun, Filled, before_of, begin_octets, leaf_octets, octets_before, plain_edge, slots_behind, slots_between}
 use Rattle.der_writer.specs.inner.Passes.{Stage, following, piece_step, stage}
 use Rattle.der_writer.specs.inner.Measuring.{IsSimpleAt, Knows, before_place, behind_piece, following_at}
@@ -23,7 +23,7 @@ knows_three false held new at kept ended total sum s paired k same len group l g
     let all : kept ≤ kept = omega arith in
     record {
       total_is = e;
-      numbers = subst (λ n. AreKept new n (Counts len group ∷ Free ∷ Free ∷ s.beside)) (sym (add-one kept)) (l, g, kept_same kept held new kept s.beside same all k.numbers);
+      numbers = subst (λ n. ArePairsKept new n (Counts len group ∷ Free ∷ Free ∷ s.beside)) (sym (add-one kept)) (l, g, kept_same kept held new kept s.beside same all k.numbers);
       awaited = awaited_same kept held new ended s.frames same less k.awaited;
       room = (let all = ap (λ r. length r.pieces) same.region in omega (arith, room, all));
     }

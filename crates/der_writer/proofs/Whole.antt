@@ -17,7 +17,7 @@ use Rattle.message_model.specs.Tables.{Tables, types_of, edge_at, pieces, child_
 use Rattle.der_model.specs.DerMessage.{DerMessage, der_message}
 use Rattle.der_model.specs.Der.{body, inner_of, der_of}
 use Rattle.der_model.proofs.BegunSlots.{drop_get}
-use Rattle.der_writer.specs.Measured.{Beside, Free, Sized, Counts, contents_octets, counts_of, holds_leaf, is_plain, slot_octets, value_counts, child_counts, AreKept, IsMeasured}
+use Rattle.der_writer.specs.Measured.{Beside, Free, Sized, Counts, contents_octets, counts_of, holds_leaf, is_plain, slot_octets, value_counts, child_counts, ArePairsKept, IsMeasured}
 use Rattle.der_writer.specs.inner.PieceOctets.{Before, Begun, before_of, head, document_edge, leaf_next, left_behind, len_kept, slots_behind, piece_octets, pieces_octets, plain_edge, counted_octets}
 use Rattle.der_writer.specs.inner.Passes.{stage}
 use Rattle.der_writer.specs.inner.Measuring.{AreBeside, AreSized, before_place, behind_piece, left_there, len_there, octets_at, octets_there, pairs_kept}
@@ -28,7 +28,7 @@ use Rattle.der_writer.proofs.ValueOctets.{children_octets}
 use Rattle.der_writer.proofs.Stages.{sum_is, children_staged}
 
 -- then what is written by the numbers that are kept is what is written by those that belong to the pieces
-pub numbers_agree : (g : Graph ℕ Simple) (b : Before) (ps : List Piece) (bs : List Beside) (held : Held) (n : ℕ) → AreBeside g ps bs → AreSized ps bs → AreKept held n bs → pieces_octets g b ps held.lens held.groups n ≡ counted_octets g b ps bs
+pub numbers_agree : (g : Graph ℕ Simple) (b : Before) (ps : List Piece) (bs : List Beside) (held : Held) (n : ℕ) → AreBeside g ps bs → AreSized ps bs → ArePairsKept held n bs → pieces_octets g b ps held.lens held.groups n ≡ counted_octets g b ps bs
 numbers_agree g b [] bs held n m z k = refl
 numbers_agree g b (p ∷ ps) [] held n m z k = absurd m
 numbers_agree g b (Begins e ∷ ps) (Free ∷ bs) held n m z k = absurd m
@@ -52,7 +52,7 @@ numbers_agree g b (Ends e ∷ ps) (Sized len ∷ bs) held n m z k = absurd m
 numbers_agree g b (Ends e ∷ ps) (Counts len group ∷ bs) held n m z k = absurd m
 
 -- there are no more pairs than pieces to which they belong
-pub kept_few : (held : Held) (n : ℕ) (bs : List Beside) → AreKept held n bs → n ≤ length bs
+pub kept_few : (held : Held) (n : ℕ) (bs : List Beside) → ArePairsKept held n bs → n ≤ length bs
 kept_few held zero [] k = omega arith
 kept_few held (suc n) [] k = absurd k
 kept_few held n (Free ∷ bs) k = (let r = kept_few held n bs k in omega (arith, r))
@@ -267,7 +267,7 @@ module _ (T : Tables) where
       none_counted : (bs : List Beside) → counted_octets g (Begun document_edge) [] bs ≡ slots_behind g 0 (Begun document_edge)
       none_counted bs = refl
 
-      octets : (ps : List Piece) → held.region.pieces ≡ ps → (0 < length held.region.pieces → AreKept held (pairs_kept held) (value_counts m 0 v))
+      octets : (ps : List Piece) → held.region.pieces ≡ ps → (0 < length held.region.pieces → ArePairsKept held (pairs_kept held) (value_counts m 0 v))
           → pieces_octets g (Begun document_edge) held.region.pieces held.lens held.groups left ≡ contents v
       octets [] e kept =
           ap (λ z. pieces_octets g (Begun document_edge) z held.lens held.groups left) e

@@ -63,17 +63,17 @@ abbrev mutual
       counts_of (is_plain slot (m.forms target)) (length (contents_octets (body m (m.forms target) v))) (length (slot_octets m k slot (Child k v rest))) ∷ (value_counts m target v ++ (Free ∷ child_counts m n rest))
 
 -- So many pairs of numbers are kept, from place 0 on: those of the last element that begins stand first.
-abbrev pub AreKept : Held → ℕ → List Beside → Type 0
-AreKept held n (Free ∷ counts) = AreKept held n counts
-AreKept held n (Sized len ∷ counts) = AreKept held n counts
-AreKept held zero [] = Unit {0}
-AreKept held (suc n) [] = ⊥
-AreKept held zero (Counts len group ∷ counts) = ⊥
-AreKept held (suc n) (Counts len group ∷ counts) = (slice_index held.lens n ≡ len) × (slice_index held.groups n ≡ group) × AreKept held n counts
+abbrev pub ArePairsKept : Held → ℕ → List Beside → Type 0
+ArePairsKept held n (Free ∷ counts) = ArePairsKept held n counts
+ArePairsKept held n (Sized len ∷ counts) = ArePairsKept held n counts
+ArePairsKept held zero [] = Unit {0}
+ArePairsKept held (suc n) [] = ⊥
+ArePairsKept held zero (Counts len group ∷ counts) = ⊥
+ArePairsKept held (suc n) (Counts len group ∷ counts) = (slice_index held.lens n ≡ len) × (slice_index held.groups n ≡ group) × ArePairsKept held n counts
 
 -- These numbers are kept, and at the place of the last piece the number of the contents octets of the whole and how many pairs there are.
 pub record HasCounts (m : DerMessage ℕ) (v : Value) (held : Held) : Type 0 where
-  pub counts : 0 < length held.region.pieces → AreKept held (slice_index held.groups (length held.region.pieces - 1)) (value_counts m m.root v)
+  pub counts : 0 < length held.region.pieces → ArePairsKept held (slice_index held.groups (length held.region.pieces - 1)) (value_counts m m.root v)
   pub whole : 0 < length held.region.pieces → slice_index held.lens (length held.region.pieces - 1) ≡ length (contents_octets (body m (m.forms m.root) v))
 
 -- The lengths of the instance that the pieces are have been filled in.

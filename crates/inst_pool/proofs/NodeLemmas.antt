@@ -1,7 +1,7 @@
 -- The contents that nodes stand for.
 use Rattle.std.proofs.Common.{◌≡◌, ℕ, zero, suc, ◌+◌, ◌<◌, ◌≤◌, List, [], ◌∷◌, ◌++◌, length, get_or, slice_get, Some, None, refl, sym, ap, ap₂, subst, ◌∙◌, arith, inl, inr, length-append}
 use Rattle.std.proofs.lemmas.List.{get_or_append_left}
-use Rattle.inst_pool.specs.inner.Nodes.{edge_in, content_by, content_of, kind_in, held_in, IsKindWithin, IsNodeWithin, AreNodesWithin, AreNodes, contents_in}
+use Rattle.inst_pool.specs.inner.Nodes.{edge_in, content_by, content_of, node_kind, number_in, IsKindWithin, IsNodeWithin, AreNodesWithin, AreNodes, contents_in}
 use Rattle.inst_pool.specs.inner.Others.{AreBetween, other_at, HasOther}
 use Rattle.inst_pool.specs.inner.Texts.{HasOneMore}
 use Rattle.inst_pool.specs.declared.content.Content.{Content}
@@ -71,12 +71,12 @@ module _ (texts : List Content) (others : List Other) (texts' : List Content) (o
       → contents_in texts' others' at (nodes ++ more) ≡ contents_in texts others at nodes ++ contents_in texts' others' end more
   contents_append at end [] more e h = (let e' : at ≡ end = omega (arith, e) in ap (λ (n : ℕ). contents_in texts' others' n more) e')
   contents_append at end (n ∷ nodes) more e h =
-      ap₂ (λ (c : Content) (l : List Content). c ∷ l) (content_goes_on at (kind_in n) (held_in n) h.0) (contents_append (suc at) end nodes more (omega (arith, e)) h.1)
+      ap₂ (λ (c : Content) (l : List Content). c ∷ l) (content_goes_on at (node_kind n) (number_in n) h.0) (contents_append (suc at) end nodes more (omega (arith, e)) h.1)
 
   within_append : (at end : ℕ) (nodes more : List Node) → end ≡ at + length nodes → AreNodesWithin texts others at nodes → AreNodesWithin texts' others' end more
       → AreNodesWithin texts' others' at (nodes ++ more)
   within_append at end [] more e h i = (let e' : end ≡ at = omega (arith, e) in subst (λ (n : ℕ). AreNodesWithin texts' others' n more) e' i)
-  within_append at end (n ∷ nodes) more e h i = (within_goes_on at (kind_in n) (held_in n) h.0, within_append (suc at) end nodes more (omega (arith, e)) h.1 i)
+  within_append at end (n ∷ nodes) more e h i = (within_goes_on at (node_kind n) (number_in n) h.0, within_append (suc at) end nodes more (omega (arith, e)) h.1 i)
 
   -- more nodes
   pub pushed : (nodes more : List Node) (cs : List Content) → AreNodes texts others nodes → contents_in texts' others' (length nodes) more ≡ cs
@@ -118,26 +118,26 @@ within_at texts others at end (suc k) (y ∷ nodes) x e h is = within_at texts o
 -- ---- one more node of a kind that is known
 
 module _ (texts : List Content) (others : List Other) (at : ℕ) (node : Node) where
-  content_is : (kind : Kind) (held : ℕ) → kind_in node ≡ kind → held_in node ≡ held → content_of texts others at node ≡ content_by texts others at kind held
+  content_is : (kind : Kind) (held : ℕ) → node_kind node ≡ kind → number_in node ≡ held → content_of texts others at node ≡ content_by texts others at kind held
   content_is kind held is_kind is_held = ap₂ (λ (k : Kind) (h : ℕ). content_by texts others at k h) is_kind is_held
 
-  pub opens : (held : ℕ) (edge : Edge) → kind_in node ≡ Open → held_in node ≡ held → edge_in held ≡ edge → content_of texts others at node ≡ long.Open edge
+  pub opens : (held : ℕ) (edge : Edge) → node_kind node ≡ Open → number_in node ≡ held → edge_in held ≡ edge → content_of texts others at node ≡ long.Open edge
   opens held edge is_kind is_held is = content_is Open held is_kind is_held ∙ ap long.Open is
 
-  pub closes : (held : ℕ) (edge : Edge) → kind_in node ≡ Close → held_in node ≡ held → edge_in held ≡ edge → content_of texts others at node ≡ long.Close edge
+  pub closes : (held : ℕ) (edge : Edge) → node_kind node ≡ Close → number_in node ≡ held → edge_in held ≡ edge → content_of texts others at node ≡ long.Close edge
   closes held edge is_kind is_held is = content_is Close held is_kind is_held ∙ ap long.Close is
 
-  within_is : (kind : Kind) → kind_in node ≡ kind → IsKindWithin texts others at kind (held_in node) → IsNodeWithin texts others at node
-  within_is kind is h = subst (λ (k : Kind). IsKindWithin texts others at k (held_in node)) (sym is) h
+  within_is : (kind : Kind) → node_kind node ≡ kind → IsKindWithin texts others at kind (number_in node) → IsNodeWithin texts others at node
+  within_is kind is h = subst (λ (k : Kind). IsKindWithin texts others at k (number_in node)) (sym is) h
 
-  pub open_within : kind_in node ≡ Open → IsNodeWithin texts others at node
+  pub open_within : node_kind node ≡ Open → IsNodeWithin texts others at node
   open_within is = within_is Open is tt
 
-  pub close_within : kind_in node ≡ Close → IsNodeWithin texts others at node
+  pub close_within : node_kind node ≡ Close → IsNodeWithin texts others at node
   close_within is = within_is Close is tt
 
 -- a content that stands apart, and its node
-module _ (texts : List Content) (others : List Other) (nodes : List Node) (node : Node) (x : Other) (h : AreNodes texts others nodes) (place : x.at ≡ length nodes) (kind : kind_in node ≡ Apart) where
+module _ (texts : List Content) (others : List Other) (nodes : List Node) (node : Node) (x : Other) (h : AreNodes texts others nodes) (place : x.at ≡ length nodes) (kind : node_kind node ≡ Apart) where
   pub apart_fits : AreNodes texts (others ++ x ∷ []) (nodes ++ node ∷ [])
   apart_fits =
       let has = subst (λ (n : ℕ). HasOther (others ++ x ∷ []) n) place (has_last others x) in
@@ -150,7 +150,7 @@ module _ (texts : List Content) (others : List Other) (nodes : List Node) (node 
   pushed_apart =
       let last : other_at (others ++ x ∷ []) (length nodes) ≡ x.content =
       subst (λ (n : ℕ). other_at (others ++ x ∷ []) n ≡ x.content) place (other_last 0 (length nodes) others x h.order (omega (arith, place))) in
-      let is = content_is texts (others ++ x ∷ []) (length nodes) node Apart (held_in node) kind refl ∙ last in
+      let is = content_is texts (others ++ x ∷ []) (length nodes) node Apart (number_in node) kind refl ∙ last in
       pushed texts others texts (others ++ x ∷ []) (other_goes_on texts others x) nodes (node ∷ []) (x.content ∷ []) h (ap (λ (c : Content). c ∷ []) is)
 
 -- nodes behind which a text may be noted

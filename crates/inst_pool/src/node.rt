@@ -3,7 +3,7 @@ ghost use Rattle.std.specs.Prelude.{◌≡◌, ◌<◌, ◌≤◌, ◌^◌, ℕ,
 ghost use Rattle.lexical_core.specs.Decimals.{IsDecimal};
 ghost use Rattle.inst_pool.specs.Contents.{piece_in, IsContentInside};
 ghost use Rattle.inst_pool.specs.Pieces.{piece_of};
-ghost use Rattle.inst_pool.specs.inner.Nodes.{kind_of, kind_in, held_in, edge_in, decimal_of, decimal_in, amount_in, content_of, IsNodeWithin};
+ghost use Rattle.inst_pool.specs.inner.Nodes.{kind_by_bits, node_kind, number_in, edge_in, decimal_of, decimal_in, amount_in, content_of, IsNodeWithin};
 ghost use Rattle.inst_pool.specs.inner.Others.{AreBetween};
 ghost use Rattle.inst_pool.specs.inner.Texts.{HasOneMore};
 ghost use Rattle.inst_pool.specs.declared.others.Other.{Other};
@@ -49,8 +49,8 @@ impl Node {
     #[inline(always)]
     pub(crate) fn new(kind: Kind, held: u32) -> Node
         requires { held < 2 ^ 29 }
-        ensures kind { kind_in result ≡ kind }
-        ensures held { held_in result ≡ held }
+        ensures kind { node_kind result ≡ kind }
+        ensures held { number_in result ≡ held }
     {
         Node {
             word: held * 8 + bits_of(kind),
@@ -60,7 +60,7 @@ impl Node {
     /// Its kind.
     #[inline(always)]
     fn kind(self) -> Kind
-        ensures { result ≡ kind_in self }
+        ensures { result ≡ node_kind self }
     {
         match self.word % 8 {
             0 => Kind::Open,
@@ -77,7 +77,7 @@ impl Node {
     /// The number that it holds.
     #[inline(always)]
     fn held(self) -> u32
-        ensures held { result ≡ held_in self }
+        ensures held { result ≡ number_in self }
         ensures fits { result < 2 ^ 29 }
     {
         self.word / 8
@@ -87,7 +87,7 @@ impl Node {
 /// The three bits that tell a kind.
 #[inline(always)]
 fn bits_of(kind: Kind) -> u32
-    ensures kind { kind_of result ≡ kind }
+    ensures kind { kind_by_bits result ≡ kind }
     ensures fits { result < 8 }
 {
     match kind {

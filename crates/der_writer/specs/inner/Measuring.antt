@@ -6,7 +6,7 @@ use Rattle.facets.specs.declared.simple.Simple.{Simple}
 use Rattle.inst_pool.specs.Pieces.{Held}
 use Rattle.reference_check.specs.Forms.{Graph}
 use Rattle.der_model.specs.LeafContents.{leaf_contents}
-use Rattle.der_writer.specs.Measured.{Beside, Free, Sized, Counts, AreKept}
+use Rattle.der_writer.specs.Measured.{Beside, Free, Sized, Counts, ArePairsKept}
 use Rattle.der_writer.specs.inner.PieceOctets.{Before, Begun, Filled, before_of, document_edge, leaf_next, leaf_octets, left_behind, len_kept, piece_octets, plain_edge, slots_behind}
 use Rattle.der_writer.specs.inner.Passes.{Frame, Stage}
 
@@ -72,7 +72,7 @@ AreAwaited held (suc ended) (frame ∷ frames) =
 -- The pass knows what a stage says, in front of the piece at a place: so many pairs of numbers are kept, so many elements are awaited.
 pub record Knows (held : Held) (at kept ended total : ℕ) (s : Stage) : Type 0 where
   pub total_is : total ≡ s.sum
-  pub numbers : AreKept held kept s.beside
+  pub numbers : ArePairsKept held kept s.beside
   pub awaited : AreAwaited held ended s.frames
   pub room : kept + ended + at ≤ length held.region.pieces
 

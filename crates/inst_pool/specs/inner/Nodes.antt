@@ -11,22 +11,22 @@ use Rattle.inst_pool.specs.declared.node.Node.{Node}
 use Rattle.inst_pool.specs.declared.others.Other.{Other}
 
 -- the kind that three bits tell
-abbrev pub kind_of : ℕ → Kind
-kind_of zero = Open
-kind_of (suc zero) = Bytes
-kind_of (suc (suc zero)) = Number
-kind_of (suc (suc (suc zero))) = Flag
-kind_of (suc (suc (suc (suc zero)))) = Code
-kind_of (suc (suc (suc (suc (suc zero))))) = Close
-kind_of (suc (suc (suc (suc (suc (suc zero)))))) = Amount
-kind_of bits = Apart
+abbrev pub kind_by_bits : ℕ → Kind
+kind_by_bits zero = Open
+kind_by_bits (suc zero) = Bytes
+kind_by_bits (suc (suc zero)) = Number
+kind_by_bits (suc (suc (suc zero))) = Flag
+kind_by_bits (suc (suc (suc (suc zero)))) = Code
+kind_by_bits (suc (suc (suc (suc (suc zero))))) = Close
+kind_by_bits (suc (suc (suc (suc (suc (suc zero)))))) = Amount
+kind_by_bits bits = Apart
 
 -- what the lowest three bits of a node tell, and the number of 29 bits that it holds
-abbrev pub kind_in : Node → Kind
-kind_in node = kind_of (node.word % 8)
+abbrev pub node_kind : Node → Kind
+node_kind node = kind_by_bits (node.word % 8)
 
-abbrev pub held_in : Node → ℕ
-held_in node = node.word / 8
+abbrev pub number_in : Node → ℕ
+number_in node = node.word / 8
 
 -- the edge that a number tells: 7 bits for the slot, and 11 for each type
 abbrev pub edge_in : ℕ → Edge
@@ -56,7 +56,7 @@ content_by texts others at Amount held = long.Number (amount_in held)
 content_by texts others at Apart held = other_at others at
 
 abbrev pub content_of : List Content → List Other → ℕ → Node → Content
-content_of texts others at node = content_by texts others at (kind_in node) (held_in node)
+content_of texts others at node = content_by texts others at (node_kind node) (number_in node)
 
 -- what a node leads to is there, and its number one that a leaf has
 abbrev pub IsKindWithin : List Content → List Other → ℕ → Kind → ℕ → Type 0
@@ -67,7 +67,7 @@ IsKindWithin texts others at Apart held = HasOther others at
 IsKindWithin texts others at kind held = Unit {0}
 
 abbrev pub IsNodeWithin : List Content → List Other → ℕ → Node → Type 0
-IsNodeWithin texts others at node = IsKindWithin texts others at (kind_in node) (held_in node)
+IsNodeWithin texts others at node = IsKindWithin texts others at (node_kind node) (number_in node)
 
 -- the same of all nodes, the first of which stands at that place
 abbrev pub AreNodesWithin : List Content → List Other → ℕ → List Node → Type 0

@@ -1,11 +1,10 @@
-use Rattle.std.proofs.Common.{◌≡◌, ◌+◌, true, refl, subst, arith}
+use Rattle.std.proofs.Common.{◌≡◌, ◌+◌, Bool, true, false, not, refl, subst, arith}
 use Rattle.fragments.specs.Fragment.{fragment}
 use Rattle.der_model.specs.DerMessage.{der_message}
 use Rattle.der_codec.specs.inner.Entering.{HasBegunComponent}
 use Rattle.der_codec.specs.inner.KeptRuns.{decoder_at}
 use Rattle.der_codec.proofs.KeptRuns.{run_reads, begun_at}
 use Rattle.der_codec.proofs.Runs.{few_in_run}
-use Rattle.der_codec.proofs.WideRuns.{not_other}
 use Rattle.der_codec.proofs.decoder.Decoder.begun_wide.Goals as goal
 
 pub advanced-requires : goal.advanced-requires
@@ -27,7 +26,7 @@ returns-else-level-end-clause-begun c = λ bytes r.
     let around = c.advanced.result in
     let fits = c.if-level-end.false in
     let ends = c.advanced.ensures.end in
-    let is : id.constructed ≡ true = not_other id.constructed c.if-not-id.false in
+    let is : id.constructed ≡ true = whole id.constructed c.if-not-id.false in
     record {
       begun =
           subst (λ z. HasBegunComponent m (decoder_at s run) bytes c.args.first 0 (record { around = around; spot = field.spot; constructed = z; end = run.place + 2 + 0 })) is
@@ -38,3 +37,7 @@ returns-else-level-end-clause-begun c = λ bytes r.
       end_is = refl;
       fits = omega (arith, fits, ends);
     }
+  where
+    whole : (b : Bool) → not b ≡ false → b ≡ true
+    whole true e = refl
+    whole false e = absurd cc
