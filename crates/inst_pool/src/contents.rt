@@ -1,13 +1,14 @@
 //! A list of contents.
-ghost use Rattle.std.specs.Prelude.{◌≡◌, ◌+◌, ◌<◌, ◌≤◌, ◌++◌, [], ◌∷◌, length, slice_get, Some, OnOk, vec_len, vec_capacity};
+ghost use Rattle.std.specs.Prelude.{◌≡◌, ◌+◌, ◌<◌, ◌≤◌, ◌++◌, [], ◌∷◌, length, slice_get, Some, IfSome, OnOk, vec_len, vec_capacity};
 ghost use Rattle.std.specs.Option.{option_map};
-ghost use Rattle.inst_pool.specs.Contents.{piece_in, AreInside};
-ghost use Rattle.inst_pool.specs.Pieces.{piece_of, room_limit};
+ghost use Rattle.data_types.specs.LeafAnswers.{leaf_of};
+ghost use Rattle.inst_pool.specs.Contents.{piece_in, pieces_in, AreInside};
+ghost use Rattle.inst_pool.specs.Pieces.{edge_of, piece_of, room_limit, IsLeafElement};
 
 use crate::content::Content;
-use crate::node::{Kind, Node, piece_of, short_edge, shortened};
+use crate::node::{Kind, Node, edge_between, piece_of, short_edge, shortened};
 use crate::others::{Other, add_other};
-use crate::piece::{Edge, Piece};
+use crate::piece::{Edge, LeafElement, Piece};
 use crate::room::{lengthen, widen};
 use crate::texts::Texts;
 use std::alloc::{AllocError, Global};
@@ -62,6 +63,25 @@ impl Contents {
     {
         let others = self.others.as_slice();
         piece_of(self.nodes[at], at, &self.texts, others, bytes)
+    }
+
+    /// The element that begins at that place, its one leaf and its end, where the nodes tell each and its bytes stand in that block.
+    #[inline(always)]
+    pub(crate) fn leaf_element<'a>(&self, at: usize, bytes: &'a [u8]) -> Option<LeafElement<'a>>
+        requires { AreInside (length bytes.now) self.now.items }
+        ensures { IfSome result (λ e. IsLeafElement (pieces_in bytes.now self.now.items) at (edge_of e.edge) (leaf_of e.leaf)) }
+    {
+        let count = self.nodes.len();
+        if count < 3 || at > count - 3 {
+            return None;
+        }
+        let Some(edge) = edge_between(self.nodes[at], self.nodes[at + 2]) else {
+            return None;
+        };
+        let Piece::Leaf(leaf) = self.piece(at + 1, bytes) else {
+            return None;
+        };
+        Some(LeafElement { edge, leaf })
     }
 
     /// Makes room for so many in all.

@@ -1,12 +1,13 @@
 //! An instance in its region.
-ghost use Rattle.std.specs.Prelude.{◌≡◌, ◌<◌, [], length, replicate, slice_get, slice_index, slice_set};
+ghost use Rattle.std.specs.Prelude.{◌≡◌, ◌<◌, [], length, replicate, slice_get, slice_index, slice_set, IfSome};
 ghost use Rattle.std.specs.Option.{option_map};
+ghost use Rattle.data_types.specs.LeafAnswers.{leaf_of};
 ghost use Rattle.inst_pool.specs.Blocks.{AreBuilding, region_of};
-ghost use Rattle.inst_pool.specs.Pieces.{piece_of, empty_region, IsRegionBounded};
+ghost use Rattle.inst_pool.specs.Pieces.{edge_of, piece_of, empty_region, IsLeafElement, IsRegionBounded};
 
 use crate::blocks::Blocks;
 use crate::builder::Builder;
-use crate::piece::Piece;
+use crate::piece::{LeafElement, Piece};
 use crate::walk::Walk;
 use std::marker::Model;
 
@@ -62,6 +63,16 @@ impl Instance {
         }
         let bytes = self.blocks.bytes.as_slice();
         Some(self.blocks.contents.piece(at, bytes))
+    }
+
+    /// The element that begins at that place, its one leaf and its end, where each of the three stands in four bytes, as most do.
+    /// Where it is `None` nothing is known, and `piece` tells.
+    #[inline(always)]
+    pub fn leaf_element(&self, at: usize) -> Option<LeafElement<'_>>
+        ensures { IfSome result (λ e. IsLeafElement self.now.region.pieces at (edge_of e.edge) (leaf_of e.leaf)) }
+    {
+        let bytes = self.blocks.bytes.as_slice();
+        self.blocks.contents.leaf_element(at, bytes)
     }
 
     /// The pieces in order.

@@ -1,7 +1,8 @@
 //! Instances of messages, each kept as a list of pieces in one region of memory.
 //!
 //! A [`Builder`] takes the pieces in order: `begin` an element, `leaf` what it holds, `close` the innermost open one.
-//! [`Builder::finish`] gives the [`Instance`], whose pieces are read by place (`piece`) or in order (`walk`, a [`Walk`]).
+//! [`Builder::finish`] gives the [`Instance`], whose pieces are read by place (`piece`; `leaf_element` three at once) or in order
+//! (`walk`, a [`Walk`]).
 //! Beside each piece a writer may keep two numbers (`set_len`, `set_group`), 0 at first. [`Instance::reset`] gives an empty
 //! builder with all the room.
 //!
@@ -30,5 +31,5 @@ mod walk;
 
 pub use builder::Builder;
 pub use instance::Instance;
-pub use piece::{Edge, Piece};
+pub use piece::{Edge, LeafElement, Piece};
 pub use walk::Walk;

@@ -247,6 +247,23 @@ fn edge_of(held: u32) -> Edge
     }
 }
 
+/// The edge of an element that begins with the one node and ends with the other, which is one comparison.
+#[inline(always)]
+pub(crate) fn edge_between(begin: Node, end: Node) -> Option<Edge>
+    ensures begins { IfSome result (λ edge. (texts : List Content) (others : List Other) (at : ℕ) → content_of texts others at begin ≡ Content.Open edge) }
+    ensures ends { IfSome result (λ edge. (texts : List Content) (others : List Other) (at : ℕ) → content_of texts others at end ≡ Content.Close edge) }
+{
+    let Kind::Open = begin.kind() else {
+        return None;
+    };
+    let held = begin.held();
+    let last = Node::new(Kind::Close, held);
+    if end.word != last.word {
+        return None;
+    }
+    Some(edge_of(held))
+}
+
 /// The decimal without a sign of this whole part and scale.
 #[inline(never)]
 fn decimal_of(whole: u32, scale: u32) -> Decimal

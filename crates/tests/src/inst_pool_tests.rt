@@ -199,9 +199,23 @@ fn is_row_leaf(number: usize, leaf: &LeafRef<'_>, row: &Row, decimal: &Decimal) 
     }
 }
 
+// Whether the first element is told at once, and none at places where none begins.
+fn tells_first(instance: &Instance) -> bool {
+    let Some(element) = instance.leaf_element(0) else {
+        return false;
+    };
+    let LeafRef::Bytes(bytes) = element.leaf else {
+        return false;
+    };
+    let others = [1, 2, 10, 12, usize::MAX];
+    let none = others.iter().all(|at| instance.leaf_element(*at).is_none());
+    element.edge == NOTE && bytes == b"ab".as_slice() && none
+}
+
 // Asserts that the instance is those elements.
 fn expect_row(rt: &impl Abort, instance: &Instance, row: &Row, decimal: &Decimal) {
     assert_eq!(rt; instance.count(), 12);
+    assert!(rt; tells_first(instance));
     let mut walk = instance.walk();
     for number in 0..12 {
         match walk.next() {

@@ -1,4 +1,4 @@
-use Rattle.std.proofs.Common.{◌≡◌, ◌+◌, ◌++◌, ◌∷◌, [], refl, ap, ◌∙◌, arith, true, false}
+use Rattle.std.proofs.Common.{◌≡◌, ◌++◌, ◌∷◌, [], refl, ap, ◌∙◌, arith, true, false}
 use Rattle.data_types.specs.Value.{Begins, Holds, Ends}
 use Rattle.inst_pool.specs.Pieces.{edge_of}
 use Rattle.inst_pool.proofs.ContentLemmas.{length_pieces}
