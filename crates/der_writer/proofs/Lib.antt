@@ -12,3 +12,6 @@ pub mod StageBounds
 pub mod KnownStages
 pub mod CountsLast
 pub mod SimpleStages
+pub mod Plain
+pub mod Putting
+pub mod Told

@@ -15,7 +15,7 @@ pub no_other : (b : Bool) → ◌≡◌ {A = ℕ} (if b then 0 else 0) 0
 no_other true = refl
 no_other false = refl
 
-plain_single : (s : Slot ℕ) (f : Form ℕ Simple) → is_plain (Some s) f ≡ true → is_single s ≡ true
+pub plain_single : (s : Slot ℕ) (f : Form ℕ Simple) → is_plain (Some s) f ≡ true → is_single s ≡ true
 plain_single s f plain = go (is_single s) refl
   where
     go : (b : Bool) → is_single s ≡ b → is_single s ≡ true

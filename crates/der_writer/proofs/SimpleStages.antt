@@ -50,15 +50,15 @@ before_next ps at next p e there = (let same : next ≡ suc at = omega (arith, e
 -- the stage in front of such an element, by that behind it
 pub simple_stage : (g : Graph ℕ Simple) (ps : List Piece) (at : ℕ) (edge : Edge) (size : ℕ) → (is : IsSimpleAt g ps at edge size)
     → stage g (before_place ps at) (drop at ps)
-    ≡ piece_step g (before_place ps at) (Begins edge) (drop (at + 1) ps) (piece_step g (Begun edge) (Holds is.leaf) (drop (at + 2) ps) (piece_step g Filled (Ends is.last) (drop (at + 3) ps) (stage g (before_place ps (at + 3)) (drop (at + 3) ps))))
+    ≡ piece_step g (before_place ps at) (Begins edge) (drop (at + 1) ps) (piece_step g (Begun edge) (Holds is.leaf) (drop (at + 2) ps) (piece_step g Filled (Ends edge) (drop (at + 3) ps) (stage g (before_place ps (at + 3)) (drop (at + 3) ps))))
 simple_stage g ps at edge size is =
     let second : at + 2 ≡ at + 1 + 1 = omega arith in
     let third : at + 3 ≡ at + 2 + 1 = omega arith in
-    let last = stage_next g ps (at + 2) (at + 3) (Ends is.last) third is.ends
-    ∙ ap (λ b. piece_step g b (Ends is.last) (drop (at + 3) ps) (stage g (before_place ps (at + 3)) (drop (at + 3) ps))) (before_next ps (at + 1) (at + 2) (Holds is.leaf) second is.holds) in
-    let leaf = stage_next g ps (at + 1) (at + 2) (Holds is.leaf) second is.holds
-    ∙ ap₂ (λ b s. piece_step g b (Holds is.leaf) (drop (at + 2) ps) s) (before_next ps at (at + 1) (Begins edge) refl is.begins) last in
-    stage_next g ps at (at + 1) (Begins edge) refl is.begins ∙ ap (λ s. piece_step g (before_place ps at) (Begins edge) (drop (at + 1) ps) s) leaf
+    let last = stage_next g ps (at + 2) (at + 3) (Ends edge) third is.there.ends
+    ∙ ap (λ b. piece_step g b (Ends edge) (drop (at + 3) ps) (stage g (before_place ps (at + 3)) (drop (at + 3) ps))) (before_next ps (at + 1) (at + 2) (Holds is.leaf) second is.there.holds) in
+    let leaf = stage_next g ps (at + 1) (at + 2) (Holds is.leaf) second is.there.holds
+    ∙ ap₂ (λ b s. piece_step g b (Holds is.leaf) (drop (at + 2) ps) s) (before_next ps at (at + 1) (Begins edge) refl is.there.begins) last in
+    stage_next g ps at (at + 1) (Begins edge) refl is.there.begins ∙ ap (λ s. piece_step g (before_place ps at) (Begins edge) (drop (at + 1) ps) s) leaf
 
 -- what follows such an element is no more than there is
 pub follows_within : (g : Graph ℕ Simple) (held : Held) (at kept ended total k : ℕ) → Knows held at kept ended total (stage g (before_place held.region.pieces at) (drop at held.region.pieces)) → following_at g held at kept k ≤ total
@@ -82,10 +82,10 @@ module _ (g : Graph ℕ Simple) (held : Held) (at kept ended total sum : ℕ) (e
   s = stage g (before_place ps (at + 3)) (drop (at + 3) ps)
 
   abbrev len : ℕ
-  len = (length (leaf_octets g (Begun edge) is.leaf) + (length (slots_behind g is.last.target Filled) + s.sum)) - s.sum
+  len = (length (leaf_octets g (Begun edge) is.leaf) + (length (slots_behind g edge.target Filled) + s.sum)) - s.sum
 
   abbrev group : ℕ
-  group = length (begin_octets g edge len) + len + following (drop (at + 3) ps) s.beside is.last.slot
+  group = length (begin_octets g edge len) + len + following (drop (at + 3) ps) s.beside edge.slot
 
   len_is : size ≡ len
   len_is = (let octets = is.octets in let none = is.none in omega (arith, octets, none))
@@ -95,7 +95,7 @@ module _ (g : Graph ℕ Simple) (held : Held) (at kept ended total sum : ℕ) (e
 
   -- the sum in front of the element, by that behind it
   sum_at : head ≡ length (begin_octets g edge size) → between + list ≡ length (octets_before g before edge group) → sum ≡ total + size + between + list + head
-      → sum ≡ length (octets_before g before edge group ++ begin_octets g edge len) + (length (leaf_octets g (Begun edge) is.leaf) + (length (slots_behind g is.last.target Filled) + s.sum))
+      → sum ≡ length (octets_before g before edge group ++ begin_octets g edge len) + (length (leaf_octets g (Begun edge) is.leaf) + (length (slots_behind g edge.target Filled) + s.sum))
   sum_at head_is list_is e =
       let split = length-append (octets_before g before edge group) (begin_octets g edge len) in
       let own = begin_is head_is in
@@ -109,8 +109,8 @@ module _ (g : Graph ℕ Simple) (held : Held) (at kept ended total sum : ℕ) (e
       → head ≡ length (begin_octets g edge size) → between + list ≡ length (octets_before g before edge (head + size + following_at g held (at + 3) kept edge.slot)) → sum ≡ total + size + between + list + head
       → Knows new at (kept + 1) ended sum (stage g before (drop at ps))
   knows_simple new paired same lens groups head_is before_is e =
-      let follow : following_at g held (at + 3) kept edge.slot ≡ following (drop (at + 3) ps) s.beside is.last.slot =
-      ap (following_at g held (at + 3) kept) (sym is.slot) ∙ sym (following_is g held (at + 3) kept is.last.slot s.beside (stage_beside g (before_place ps (at + 3)) (drop (at + 3) ps)) k.numbers) in
+      let follow : following_at g held (at + 3) kept edge.slot ≡ following (drop (at + 3) ps) s.beside edge.slot =
+      sym (following_is g held (at + 3) kept edge.slot s.beside (stage_beside g (before_place ps (at + 3)) (drop (at + 3) ps)) k.numbers) in
       let group_is : head + size + following_at g held (at + 3) kept edge.slot ≡ group = ap₂ (λ a b. a + b) (ap₂ (λ a b. a + b) (begin_is head_is) len_is) follow in
       let list_is : between + list ≡ length (octets_before g before edge group) = before_is ∙ ap (λ z. length (octets_before g before edge z)) group_is in
       subst (Knows new at (kept + 1) ended sum) (sym (simple_stage g ps at edge size is))
@@ -128,8 +128,8 @@ pub simple_bytes : (g : Graph ℕ Simple) (ps : List Piece) (at : ℕ) (edge : E
 simple_bytes g ps at edge size is =
     let second : at + 1 + 1 ≡ at + 2 = omega arith in
     let third : at + 2 + 1 ≡ at + 3 = omega arith in
-    let a = bytes_from ps at (Begins edge) is.begins in
-    let b = bytes_from ps (at + 1) (Holds is.leaf) is.holds ∙ ap (λ n. piece_bytes (Holds is.leaf) + bytes_of (drop n ps)) second in
-    let c = bytes_from ps (at + 2) (Ends is.last) is.ends ∙ ap (λ n. piece_bytes (Ends is.last) + bytes_of (drop n ps)) third in
+    let a = bytes_from ps at (Begins edge) is.there.begins in
+    let b = bytes_from ps (at + 1) (Holds is.leaf) is.there.holds ∙ ap (λ n. piece_bytes (Holds is.leaf) + bytes_of (drop n ps)) second in
+    let c = bytes_from ps (at + 2) (Ends edge) is.there.ends ∙ ap (λ n. piece_bytes (Ends edge) + bytes_of (drop n ps)) third in
     let few = is.few in
     omega (arith, a, b, c, few)

@@ -3,3 +3,4 @@ pub mod PieceOctets
 pub mod Passes
 pub mod Heads
 pub mod Measuring
+pub mod Writing

@@ -3,7 +3,7 @@
 //! that few pages are touched: those of the first element stand last. What the pass has to know of elements that have ended and
 //! not begun it keeps as a stack at the last places, so that it takes no memory. A piece adds less than 50,000 octets to its own
 //! bytes, and a region has at most 2^48 pieces and bytes, so that no sum comes to 15 * 10^18.
-ghost use Rattle.std.specs.Prelude.{◌≡◌, true, false, ℕ, ◌+◌, ◌*◌, ◌<◌, ◌≤◌, List, length, drop, Some, slice_get, slice_set, ◌-◌};
+ghost use Rattle.std.specs.Prelude.{◌≡◌, true, false, ◌+◌, ◌*◌, ◌<◌, ◌≤◌, List, length, drop, Some, slice_get, slice_set, ◌-◌};
 ghost use Rattle.data_types.specs.Leaf.{Leaf};
 ghost use Rattle.data_types.specs.Value.{Piece as PieceOf, Begins, Holds, Ends};
 ghost use Rattle.inst_pool.specs.Pieces.{edge_of, piece_bytes, bytes_of};
@@ -81,6 +81,7 @@ fn read(instance: &Instance, at: usize) -> Seen
 
 /// How many octets of a slot stand at a place, where an element of the slot begins there, whose numbers are the last of so
 /// many that are kept.
+#[inline(always)]
 fn octets_following(model: &Model, instance: &Instance, at: usize, kept: usize, slot: u32) -> u64
     requires { kept ≤ length instance.now.region.pieces }
     ensures { result ≡ following_at (types_of model.now) instance.now at kept slot }
@@ -287,47 +288,59 @@ fn measure_simple(
     }
 }
 
-/// An element that ends more in front of those that were measured: the whole of it where its type is simple, else its end.
+/// An element of a simple type more in front of the pieces that were measured.
 #[inline(always)]
-fn measure_ended(
+fn measure_element(
     model: &Model,
     instance: &mut Instance,
-    edge: Edge,
+    element: SimpleElement,
     at: usize,
     pass: Pass,
-) -> Reached
+) -> Pass
+    requires place { at + 3 ≤ length instance.old.region.pieces }
+    requires simple { IsSimpleAt (types_of model.now) instance.old.region.pieces at (edge_of element.edge) element.size }
+    requires room { pass.sum < 14500000000000000000 }
+    requires known { Knows instance.old (at + 3) pass.kept pass.ended pass.sum (stage (types_of model.now) (before_place instance.old.region.pieces (at + 3)) (drop (at + 3) instance.old.region.pieces)) }
+    ensures region { instance.new.region ≡ instance.old.region }
+    ensures known { Knows instance.new at result.kept result.ended result.sum (stage (types_of model.now) (before_place instance.old.region.pieces at) (drop at instance.old.region.pieces)) }
+    ensures most { result.sum + bytes_of (drop (at + 3) instance.old.region.pieces) ≤ pass.sum + 150000 + bytes_of (drop at instance.old.region.pieces) }
+{
+    let _count = instance.count();
+    if is_plain(model, element.edge) {
+        return measure_plain(model, instance, element, at, pass);
+    }
+    measure_simple(model, instance, element, at, pass)
+}
+
+/// One piece more in front of those that were measured.
+#[inline(always)]
+fn measure_piece(model: &Model, instance: &mut Instance, at: usize, pass: Pass) -> Pass
     requires place { at < length instance.old.region.pieces }
-    requires piece { slice_get instance.old.region.pieces at ≡ Some (Ends (edge_of edge)) }
     requires room { pass.sum < 14500000000000000000 }
     requires known { Knows instance.old (at + 1) pass.kept pass.ended pass.sum (stage (types_of model.now) (before_place instance.old.region.pieces (at + 1)) (drop (at + 1) instance.old.region.pieces)) }
     ensures region { instance.new.region ≡ instance.old.region }
-    ensures back { result.at ≤ at }
-    ensures known { Knows instance.new result.at result.pass.kept result.pass.ended result.pass.sum (stage (types_of model.now) (before_place instance.old.region.pieces result.at) (drop result.at instance.old.region.pieces)) }
-    ensures most { result.pass.sum + bytes_of (drop (at + 1) instance.old.region.pieces) ≤ pass.sum + (at + 1 - result.at) * 50000 + bytes_of (drop result.at instance.old.region.pieces) }
+    ensures known { Knows instance.new at result.kept result.ended result.sum (stage (types_of model.now) (before_place instance.old.region.pieces at) (drop at instance.old.region.pieces)) }
+    ensures most { result.sum + bytes_of (drop (at + 1) instance.old.region.pieces) ≤ pass.sum + 50000 + bytes_of (drop at instance.old.region.pieces) }
 {
     let _count = instance.count();
-    let Some(element) = simple_before(model, instance, edge, at) else {
-        let next = next_at(instance, at);
-        return Reached {
+    let seen = read(instance, at);
+    match seen.before {
+        Before::Begun(edge) => begin(model, instance, next_at(instance, at), edge, at, pass),
+        Before::Filled => fill(
+            model,
+            instance,
+            before_at(instance, at),
+            seen.size,
             at,
-            pass: end(model, instance, next, edge, at, pass),
-        };
-    };
-    if is_plain(model, element.edge) {
-        return Reached {
-            at: at - 2,
-            pass: measure_plain(model, instance, element, at - 2, pass),
-        };
-    }
-    Reached {
-        at: at - 2,
-        pass: measure_simple(model, instance, element, at - 2, pass),
+            pass,
+        ),
+        Before::Ended(edge) => end(model, instance, next_at(instance, at), edge, at, pass),
     }
 }
 
 /// One piece more in front of those that were measured, or the three of an element of a simple type.
 #[inline(always)]
-fn measure_piece(model: &Model, instance: &mut Instance, at: usize, pass: Pass) -> Reached
+fn measure_next(model: &Model, instance: &mut Instance, at: usize, pass: Pass) -> Reached
     requires place { at < length instance.old.region.pieces }
     requires room { pass.sum < 14500000000000000000 }
     requires known { Knows instance.old (at + 1) pass.kept pass.ended pass.sum (stage (types_of model.now) (before_place instance.old.region.pieces (at + 1)) (drop (at + 1) instance.old.region.pieces)) }
@@ -336,24 +349,15 @@ fn measure_piece(model: &Model, instance: &mut Instance, at: usize, pass: Pass) 
     ensures known { Knows instance.new result.at result.pass.kept result.pass.ended result.pass.sum (stage (types_of model.now) (before_place instance.old.region.pieces result.at) (drop result.at instance.old.region.pieces)) }
     ensures most { result.pass.sum + bytes_of (drop (at + 1) instance.old.region.pieces) ≤ pass.sum + (at + 1 - result.at) * 50000 + bytes_of (drop result.at instance.old.region.pieces) }
 {
-    let _count = instance.count();
-    let seen = read(instance, at);
-    match seen.before {
-        Before::Begun(edge) => {
-            let next = next_at(instance, at);
-            Reached {
-                at,
-                pass: begin(model, instance, next, edge, at, pass),
-            }
-        }
-        Before::Filled => {
-            let before = before_at(instance, at);
-            Reached {
-                at,
-                pass: fill(model, instance, before, seen.size, at, pass),
-            }
-        }
-        Before::Ended(edge) => measure_ended(model, instance, edge, at, pass),
+    if let Some(element) = simple_before(model, instance, at) {
+        return Reached {
+            at: at - 2,
+            pass: measure_element(model, instance, element, at - 2, pass),
+        };
+    }
+    Reached {
+        at,
+        pass: measure_piece(model, instance, at, pass),
     }
 }
 
@@ -372,7 +376,7 @@ fn measure_pieces(model: &Model, instance: &mut Instance) -> Pass
         },
     };
     while reached.at > 0 {
-        reached = measure_piece(model, instance, reached.at - 1, reached.pass);
+        reached = measure_next(model, instance, reached.at - 1, reached.pass);
     }
     reached.pass
 }

@@ -1,9 +1,9 @@
 -- What the pass that fills in the lengths keeps of elements that end, while their beginnings are still to come.
 use Rattle.std.specs.Prelude.{◌≡◌, ℕ, zero, suc, ◌+◌, ◌-◌, ◌≤◌, ◌==◌, true, false, List, [], ◌∷◌, length, Option, Some, None, slice_get, slice_index, if◌then◌else◌}
 use Rattle.data_types.specs.Leaf.{Leaf, octet_count}
-use Rattle.data_types.specs.Value.{Edge, Piece, Begins, Holds, Ends}
+use Rattle.data_types.specs.Value.{Edge, Piece, Begins, Holds}
 use Rattle.facets.specs.declared.simple.Simple.{Simple}
-use Rattle.inst_pool.specs.Pieces.{Held}
+use Rattle.inst_pool.specs.Pieces.{Held, IsLeafElement}
 use Rattle.reference_check.specs.Forms.{Graph}
 use Rattle.der_model.specs.LeafContents.{leaf_contents}
 use Rattle.der_writer.specs.Measured.{Beside, Free, Sized, Counts, ArePairsKept}
@@ -100,14 +100,10 @@ AreSized (p ∷ ps) (Sized len ∷ bs) = (leaf_next (slice_get ps 0) ≡ len) ×
 AreSized (p ∷ ps) (Free ∷ bs) = AreSized ps bs
 AreSized (p ∷ ps) (Counts len group ∷ bs) = AreSized ps bs
 
--- An element that begins at a place has three pieces: no slots stand behind its leaf, which has so many octets.
+-- An element that begins at a place has one leaf, which has so many octets, and no slots stand behind it.
 pub record IsSimpleAt (g : Graph ℕ Simple) (pieces : List Piece) (at : ℕ) (edge : Edge) (size : ℕ) : Type 0 where
   pub leaf : Leaf
-  pub last : Edge
-  pub begins : slice_get pieces at ≡ Some (Begins edge)
-  pub holds : slice_get pieces (at + 1) ≡ Some (Holds leaf)
-  pub ends : slice_get pieces (at + 2) ≡ Some (Ends last)
-  pub slot : last.slot ≡ edge.slot
+  pub there : IsLeafElement pieces at edge leaf
   pub octets : size ≡ length (leaf_octets g (Begun edge) leaf)
   pub few : size ≤ octet_count leaf + 32
-  pub none : length (slots_behind g last.target Filled) ≡ 0
+  pub none : length (slots_behind g edge.target Filled) ≡ 0

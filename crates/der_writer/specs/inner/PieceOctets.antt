@@ -1,4 +1,4 @@
--- What is written at a piece: the octets of an instance piece by piece, by the numbers beside each (X.690 §8.1, §8.9, §8.10).
+-- What is written at a piece: the octets of an instance piece by piece, by the numbers that are kept (X.690 §8.1, §8.9, §8.10).
 use Rattle.std.specs.Prelude.{ℕ, suc, ◌-◌, ◌==◌, Bool, true, false, List, [], ◌∷◌, ◌++◌, length, take, drop, Option, Some, None, slice_get, slice_index, if◌then◌else◌}
 use Rattle.data_types.specs.Leaf.{Leaf}
 use Rattle.data_types.specs.Value.{Edge, Piece, Begins, Holds, Ends}

@@ -6,8 +6,8 @@ use Rattle.der_writer.specs.inner.Measuring.{Knows, before_place}
 use Rattle.der_writer.proofs.KnownStages.{bytes_within}
 use Rattle.der_writer.proofs.lengths.measure_pieces.Goals as goal
 
-pub measure_piece-reached-requires-clause-room : goal.measure_piece-reached-requires-clause-room
-measure_piece-reached-requires-clause-room c =
+pub measure_next-reached-requires-clause-room : goal.measure_next-reached-requires-clause-room
+measure_next-reached-requires-clause-room c =
     let bytes = bytes_within c.args.instance.now.region.pieces c.loop-reached.reached.at in
     let bounded = c.count-count.ensures.bounded in
     let nodes = bounded.nodes in
@@ -17,8 +17,8 @@ measure_piece-reached-requires-clause-room c =
     let most = c.loop-reached.invariant.most in
     omega (arith, bytes, nodes, all, node_limit, byte_limit, most)
 
-pub measure_piece-reached-requires-clause-known : goal.measure_piece-reached-requires-clause-known
-measure_piece-reached-requires-clause-known c =
+pub measure_next-reached-requires-clause-known : goal.measure_next-reached-requires-clause-known
+measure_next-reached-requires-clause-known c =
     let ps = c.args.instance.now.region.pieces in
     let g = types_of c.args.model.now in
     let at = c.loop-reached.reached.at in
@@ -33,19 +33,19 @@ loop-reached-preserved c =
     let ps = c.args.instance.now.region.pieces in
     let g = types_of c.args.model.now in
     let old = c.loop-reached.reached.at in
-    let now = c.measure_piece-reached.result in
+    let now = c.measure_next-reached.result in
     let same : c.loop-reached.instance.region.pieces ≡ ps = ap (λ r. r.pieces) c.loop-reached.invariant.region in
     let place = c.loop-reached.invariant.place in
     let some = c.loop-reached-test.true in
     let next : old - 1 + 1 ≡ old = omega (arith, some) in
-    let back = c.measure_piece-reached.ensures.back in
+    let back = c.measure_next-reached.ensures.back in
     let behind : bytes_of (drop (old - 1 + 1) c.loop-reached.instance.region.pieces) ≡ bytes_of (drop old ps) = ap₂ (λ n z. bytes_of (drop n z)) next same in
     let front : bytes_of (drop now.at c.loop-reached.instance.region.pieces) ≡ bytes_of (drop now.at ps) = ap (λ z. bytes_of (drop now.at z)) same in
-    let sum = c.measure_piece-reached.ensures.most in
+    let sum = c.measure_next-reached.ensures.most in
     let before = c.loop-reached.invariant.most in
     record {
-      region = c.measure_piece-reached.ensures.region ∙ c.loop-reached.invariant.region;
+      region = c.measure_next-reached.ensures.region ∙ c.loop-reached.invariant.region;
       place = omega (arith, place, back);
-      known = subst (λ z. Knows c.measure_piece-reached.new.instance now.at now.pass.kept now.pass.ended now.pass.sum (stage g (before_place z now.at) (drop now.at z))) same c.measure_piece-reached.ensures.known;
+      known = subst (λ z. Knows c.measure_next-reached.new.instance now.at now.pass.kept now.pass.ended now.pass.sum (stage g (before_place z now.at) (drop now.at z))) same c.measure_next-reached.ensures.known;
       most = omega (arith, sum, before, behind, front, place, some, back);
     }

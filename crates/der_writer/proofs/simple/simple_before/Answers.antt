@@ -1,32 +1,26 @@
--- Three pieces, of which the types are the same.
-use Rattle.std.proofs.Common.{◌≡◌, ◌+◌, ◌-◌, Some, length, drop, refl, sym, ap, ◌∙◌, subst, arith}
-use Rattle.std.specs.Prelude.{slice_get}
-use Rattle.data_types.specs.Value.{Holds, Ends}
+-- Three pieces, of which the first and the last are of one edge.
+use Rattle.std.proofs.Common.{◌≡◌, ◌+◌, ◌-◌, ◌<◌, length, drop, refl, sym, ap, ◌∙◌, subst, arith}
+use Rattle.std.proofs.lemmas.Option.{slice_get_within}
+use Rattle.data_types.specs.LeafAnswers.{leaf_of}
+use Rattle.data_types.specs.Value.{Ends}
 use Rattle.inst_pool.specs.Pieces.{edge_of}
-use Rattle.message_model.specs.Tables.{types_of}
-use Rattle.der_writer.specs.inner.PieceOctets.{empty_slots, first_leaf}
-use Rattle.der_writer.specs.inner.Measuring.{IsSizeOf}
+use Rattle.der_writer.specs.inner.PieceOctets.{empty_slots}
 use Rattle.der_writer.proofs.simple.simple_before.Goals as goal
+
+pub returns-clause-within : goal.returns-clause-within
+returns-clause-within c =
+    let ps = c.args.instance.now.region.pieces in
+    let far = c.if-at-lt2.false in
+    let third : c.args.at - 2 + 2 ≡ c.args.at = omega (arith, far) in
+    subst (λ n. n < length ps) third (slice_get_within ps (c.args.at - 2 + 2) (Ends (edge_of c.in-Some.element.edge)) c.in-Some.ensures.ends)
 
 pub returns-clause-simple : goal.returns-clause-simple
 returns-clause-simple c =
-    let types = types_of c.args.model.now in
-    let ps = c.args.instance.now.region.pieces in
-    let far = c.if-at-lt2.false in
-    let second : c.args.at - 1 ≡ c.args.at - 2 + 1 = omega (arith, far) in
-    let third : c.args.at ≡ c.args.at - 2 + 2 = omega (arith, far) in
-    let held = c.in-Some-size_at.ensures in
-    let leaf = held.0 in
-    let size : IsSizeOf (Holds leaf) c.in-Some-size_at.size = held.2 in
-    let contents = c.if-not-is_simple.ensures.leaf refl leaf in
+    let leaf = leaf_of c.in-Some.element.leaf in
     record {
       leaf = leaf;
-      last = edge_of c.args.last;
-      begins = c.in-Some.ensures;
-      holds = subst (λ n. slice_get ps n ≡ Some (Holds leaf)) second held.1;
-      ends = subst (λ n. slice_get ps n ≡ Some (Ends (edge_of c.args.last))) third c.requires.last;
-      slot = sym c.if-edge-last-2.false;
-      octets = size.0 ∙ ap length (sym contents ∙ ap (λ n. first_leaf (types n) leaf) (sym c.if-edge-last.false));
-      few = size.1;
+      there = c.in-Some.ensures;
+      octets = c.leaf_size.ensures.size ∙ sym (ap length (c.if-not-is_simple.ensures.leaf refl leaf));
+      few = c.leaf_size.ensures.most;
       none = ap (λ z. length (empty_slots 0 (drop 0 z))) (c.if-not-is_simple.ensures.slots refl);
     }

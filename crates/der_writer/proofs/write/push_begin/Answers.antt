@@ -1,33 +1,58 @@
 -- The slots between, and then the heads.
-use Rattle.std.proofs.Common.{◌+◌, ◌-◌, ◌++◌, take, drop, sym, ap, append_assoc}
+use Rattle.std.proofs.Common.{◌≡◌, ◌+◌, ◌-◌, ◌++◌, Bool, take, drop, sym, ap, ◌∙◌, append_assoc, if◌then◌else◌}
 use Rattle.std.specs.Prelude.{slice_get, slice_index}
 use Rattle.data_types.specs.Value.{Begins}
 use Rattle.inst_pool.specs.Pieces.{edge_of}
 use Rattle.message_model.specs.Tables.{types_of}
-use Rattle.der_writer.specs.inner.PieceOctets.{begin_octets, len_kept, list_head, own_slot, slots_between, empty_slots, sequence_slots}
+use Rattle.der_writer.specs.Measured.{is_plain}
+use Rattle.der_writer.specs.inner.PieceOctets.{begin_octets, leaf_next, len_kept, list_head, own_slot, slots_between, empty_slots, sequence_slots}
 use Rattle.der_writer.specs.inner.Measuring.{before_place}
 use Rattle.der_writer.proofs.Pairs.{pair_stops, pair_ends, same_text}
+use Rattle.der_writer.proofs.Told.{told_done, told_stopped}
 use Rattle.der_writer.proofs.write.push_begin.Goals as goal
 
-pub returns-in-Err : goal.returns-in-Err
-returns-in-Err g c =
+pub returns-in-Err-clause-pushed : goal.returns-in-Err-clause-pushed
+returns-in-Err-clause-pushed g c =
     let types = types_of c.args.model.now in
     let edge = edge_of c.args.edge in
-    let before = before_place c.args.instance.now.region.pieces c.args.at in
+    let before = before_place c.args.instance.now.region.pieces c.args.place.at in
     let between = λ (k : _). empty_slots k (take (edge.slot - k) (drop k (sequence_slots (types edge.parent)))) in
-    let list = list_head (own_slot types edge) before edge.slot (slice_index c.args.instance.now.groups (c.args.left - 1)) in
-    let own = begin_octets types edge (len_kept types (Begins edge) (slice_get c.args.instance.now.region.pieces (c.args.at + 1)) c.args.instance.now.lens c.args.left) in
-    pair_stops g.O.Sink.held g.O.Sink.faults g.O.Sink.room (slots_between types edge.parent before edge.slot) (list ++ own) _ (sym (append_assoc (slots_between types edge.parent before edge.slot) list own)) _ _ c.in-Err.error
-    (same_text g.O.Sink.held g.O.Sink.faults g.O.Sink.room _ _ (ap between c.next_at-next.ensures) _ _ _ c.in-Err.ensures)
+    let list = list_head (own_slot types edge) before edge.slot (slice_index c.args.instance.now.groups (c.args.place.left - 1)) in
+    let own = begin_octets types edge (len_kept types (Begins edge) (slice_get c.args.instance.now.region.pieces (c.args.place.at + 1)) c.args.instance.now.lens c.args.place.left) in
+    told_stopped g.O.Sink.held g.O.Sink.faults g.O.Sink.room c.in-Err.error _ _ _
+    (pair_stops g.O.Sink.held g.O.Sink.faults g.O.Sink.room (slots_between types edge.parent before edge.slot) (list ++ own) _ (sym (append_assoc (slots_between types edge.parent before edge.slot) list own)) _ _ c.in-Err.error
+    (same_text g.O.Sink.held g.O.Sink.faults g.O.Sink.room _ _ (ap between c.requires.place.next) _ _ _ c.in-Err.ensures))
 
-pub returns : goal.returns
-returns g c =
+pub returns-in-Err-push_opening-clause-pushed : goal.returns-in-Err-push_opening-clause-pushed
+returns-in-Err-push_opening-clause-pushed g c =
     let types = types_of c.args.model.now in
     let edge = edge_of c.args.edge in
-    let before = before_place c.args.instance.now.region.pieces c.args.at in
+    let pieces = c.args.instance.now.region.pieces in
+    let before = before_place pieces c.args.place.at in
     let between = λ (k : _). empty_slots k (take (edge.slot - k) (drop k (sequence_slots (types edge.parent)))) in
-    let list = list_head (own_slot types edge) before edge.slot (slice_index c.args.instance.now.groups (c.args.left - 1)) in
-    let own = begin_octets types edge (len_kept types (Begins edge) (slice_get c.args.instance.now.region.pieces (c.args.at + 1)) c.args.instance.now.lens c.args.left) in
-    pair_ends g.O.Sink.held g.O.Sink.faults g.O.Sink.room (slots_between types edge.parent before edge.slot) (list ++ own) _ (sym (append_assoc (slots_between types edge.parent before edge.slot) list own)) _ _ _ c.push_opening.result
-    (same_text g.O.Sink.held g.O.Sink.faults g.O.Sink.room _ _ (ap between c.next_at-next.ensures) _ _ _ c.in_default.ensures)
-    (same_text g.O.Sink.held g.O.Sink.faults g.O.Sink.room _ _ (ap (λ n. list ++ begin_octets types edge n) c.begun_size-size.ensures) _ _ _ (c.push_opening.ensures before c.next_at-next.ensures))
+    let list = list_head (own_slot types edge) before edge.slot (slice_index c.args.instance.now.groups (c.args.place.left - 1)) in
+    let len = len_kept types (Begins edge) (slice_get pieces (c.args.place.at + 1)) c.args.instance.now.lens c.args.place.left in
+    let size : c.begun_size-size.result ≡ len =
+    c.begun_size-size.ensures
+    ∙ ap (λ (p : Bool). if p then leaf_next (slice_get pieces (c.args.place.at + 1)) else slice_index c.args.instance.now.lens (c.args.place.left - 1)) (c.is_plain_in-plain.ensures ∙ ap (λ o. is_plain o (types edge.target)) c.slot-own.ensures) in
+    told_stopped g.O.Sink.held g.O.Sink.faults g.O.Sink.room c.in-Err-push_opening.error _ _ _
+    (pair_ends g.O.Sink.held g.O.Sink.faults g.O.Sink.room (slots_between types edge.parent before edge.slot) (list ++ begin_octets types edge len) _ (sym (append_assoc (slots_between types edge.parent before edge.slot) list (begin_octets types edge len))) _ _ _ _
+    (same_text g.O.Sink.held g.O.Sink.faults g.O.Sink.room _ _ (ap between c.requires.place.next) _ _ _ c.in_default.ensures)
+    (same_text g.O.Sink.held g.O.Sink.faults g.O.Sink.room _ _ (ap (λ n. list ++ begin_octets types edge n) size) _ _ _ (c.in-Err-push_opening.ensures before c.requires.place.next)))
+
+pub returns-clause-pushed : goal.returns-clause-pushed
+returns-clause-pushed g c =
+    let types = types_of c.args.model.now in
+    let edge = edge_of c.args.edge in
+    let pieces = c.args.instance.now.region.pieces in
+    let before = before_place pieces c.args.place.at in
+    let between = λ (k : _). empty_slots k (take (edge.slot - k) (drop k (sequence_slots (types edge.parent)))) in
+    let list = list_head (own_slot types edge) before edge.slot (slice_index c.args.instance.now.groups (c.args.place.left - 1)) in
+    let len = len_kept types (Begins edge) (slice_get pieces (c.args.place.at + 1)) c.args.instance.now.lens c.args.place.left in
+    let size : c.begun_size-size.result ≡ len =
+    c.begun_size-size.ensures
+    ∙ ap (λ (p : Bool). if p then leaf_next (slice_get pieces (c.args.place.at + 1)) else slice_index c.args.instance.now.lens (c.args.place.left - 1)) (c.is_plain_in-plain.ensures ∙ ap (λ o. is_plain o (types edge.target)) c.slot-own.ensures) in
+    told_done g.O.Sink.held g.O.Sink.faults g.O.Sink.room tt _ _ _ _
+    (pair_ends g.O.Sink.held g.O.Sink.faults g.O.Sink.room (slots_between types edge.parent before edge.slot) (list ++ begin_octets types edge len) _ (sym (append_assoc (slots_between types edge.parent before edge.slot) list (begin_octets types edge len))) _ _ _ _
+    (same_text g.O.Sink.held g.O.Sink.faults g.O.Sink.room _ _ (ap between c.requires.place.next) _ _ _ c.in_default.ensures)
+    (same_text g.O.Sink.held g.O.Sink.faults g.O.Sink.room _ _ (ap (λ n. list ++ begin_octets types edge n) size) _ _ _ (c.in_default-push_opening.ensures before c.requires.place.next)))
