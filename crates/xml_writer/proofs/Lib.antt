@@ -3,6 +3,7 @@ pub mod ValueTexts
 pub mod PlainTexts
 pub mod Ahead
 pub mod Putting
+pub mod ElementTexts
 pub mod SomeText
 pub mod OneText
 pub mod WrittenValues

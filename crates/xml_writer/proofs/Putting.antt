@@ -1,5 +1,5 @@
 -- What pieces write is put into a buffer, one after the other.
-use Rattle.std.proofs.Common.{◌≡◌, ℕ, ◌+◌, List, ◌∷◌, ◌++◌, Some, refl, ap, sym, subst, ◌∙◌, append_assoc, drop}
+use Rattle.std.proofs.Common.{◌≡◌, ℕ, ◌+◌, List, ◌∷◌, ◌++◌, Some, ap, sym, subst, ◌∙◌, append_assoc, drop}
 use Rattle.std.specs.Prelude.{slice_get}
 use Rattle.data_types.specs.Value.{Piece}
 use Rattle.facets.specs.declared.simple.Simple.{Simple}
@@ -9,9 +9,6 @@ use Rattle.xml_writer.specs.declared.innermost.Innermost.{Innermost}
 use Rattle.xml_writer.proofs.Ahead.{from_piece}
 
 module _ (g : Graph ℕ Simple) (pieces : List Piece) where
-  pub put_none : (i : Innermost) (at : ℕ) (buffer : List ℕ) → HasPut g pieces i at buffer i at buffer
-  put_none i at buffer rest w = (rest, w, refl)
-
   module _ (before : Innermost) (from : ℕ) (old : List ℕ) (i : Innermost) (at : ℕ) (buffer : List ℕ) (put : HasPut g pieces before from old i at buffer) where
     -- the buffer is as it was
     pub put_kept : (left : List ℕ) → left ≡ buffer → HasPut g pieces before from old i at left

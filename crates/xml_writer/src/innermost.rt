@@ -16,6 +16,15 @@ pub(crate) struct Innermost {
     pub(crate) unended: bool,
 }
 
+/// Where a writer is among the pieces of an instance.
+#[derive(Clone, Copy, Debug)]
+pub(crate) struct Place {
+    /// How many pieces stand before it.
+    pub(crate) at: usize,
+    /// The innermost element there.
+    pub(crate) innermost: Innermost,
+}
+
 /// The innermost element, where one of the type begins.
 pub(crate) fn innermost_begun(model: &Model, number: u32) -> Innermost
     ensures { result ≡ innermost_begun (types_of model.now) number }

@@ -145,7 +145,7 @@ fn put_plain_text(simple: &Simple, leaf: &LeafRef<'_>, buffer: &mut Buffer) -> b
 
 /// The text of a leaf of a text that fits: that of its code where there are codes. `None` where it is of another kind.
 #[inline(always)]
-fn text_of<'a>(simple: &'a Simple, leaf: &LeafRef<'a>) -> Option<&'a [u8]>
+pub(crate) fn text_of<'a>(simple: &'a Simple, leaf: &LeafRef<'a>) -> Option<&'a [u8]>
     requires { Fits simple.now (leaf_of leaf.now) }
     ensures some { IfSome result (λ text. (chars : List ℕ) → IsCanonicalUnder simple.now (leaf_of leaf.now) chars → text.now ≡ encode_utf8_all chars) }
     ensures none { IfNone result (simple.now.kind ≢ Kind.Text) }

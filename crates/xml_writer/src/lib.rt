@@ -10,6 +10,7 @@
 //! Limits: the instance is one that the types of the model admit.
 #![tactic(auto)]
 
+mod elements;
 mod innermost;
 pub mod laws;
 mod leaves;

@@ -7,22 +7,14 @@ ghost use Rattle.inst_pool.specs.Pieces.{piece_of};
 ghost use Rattle.message_model.specs.Tables.{types_of};
 ghost use Rattle.xml_writer.specs.inner.PieceTexts.{innermost_begun, innermost_behind, IsPieceText, AreWritten, HasPut};
 
-use crate::innermost::{Innermost, innermost_begun, innermost_behind};
+use crate::elements::put_element;
+use crate::innermost::{Innermost, Place, innermost_begun, innermost_behind};
 use crate::leaves::{push_held, put_plain};
 use crate::tags::{push_begin, push_end, put_begin, put_end};
 use data_types::LeafRef;
 use inst_pool::{Instance, Piece};
 use message_model::Model;
 use outside::{Buffer, Sink, SinkError};
-
-/// Where a writer is among the pieces of an instance.
-#[derive(Clone, Copy, Debug)]
-pub(crate) struct Place {
-    /// How many pieces stand before it.
-    pub(crate) at: usize,
-    /// The innermost element there.
-    pub(crate) innermost: Innermost,
-}
 
 /// Pushes what the pieces of the instance write, one after the other, by way of a buffer.
 pub(crate) fn push_pieces<O: Sink>(
@@ -76,6 +68,10 @@ fn put_pieces(model: &Model, instance: &Instance, place: Place, buffer: &mut Buf
     let count = instance.count();
     let mut next = place;
     while next.at < count {
+        if let Some(behind) = put_element(model, instance, next, buffer) {
+            next = behind;
+            continue;
+        }
         let Some(piece) = instance.piece(next.at) else {
             unreachable!()
         };

@@ -75,7 +75,7 @@ pub(crate) fn put_end(model: &Model, edge: &Edge, buffer: &mut Buffer) -> bool
 
 /// The tag of an element.
 #[inline(always)]
-fn tag_of<'a>(model: &'a Model, edge: &Edge) -> &'a [u8]
+pub(crate) fn tag_of<'a>(model: &'a Model, edge: &Edge) -> &'a [u8]
     requires { (s : Slotted ℕ) × (slice_get (form_slots (types_of model.now edge.now.parent)) edge.now.slot ≡ Some s) }
     ensures { (s : Slotted ℕ) → slice_get (form_slots (types_of model.now edge.now.parent)) edge.now.slot ≡ Some s → result.now ≡ s.tag }
 {

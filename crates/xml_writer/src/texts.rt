@@ -3,6 +3,8 @@ ghost use Rattle.std.specs.Prelude.{◌≡◌, ◌++◌, ℕ, List, IsTrue, fals
 ghost use Rattle.std.specs.List.{prefix_len};
 ghost use Rattle.lexical_core.specs.Escapes.{escape_of};
 ghost use Rattle.outside.specs.Pushes.{Pushes};
+ghost use Rattle.xml_writer.specs.CanonXml.{end_tag};
+ghost use Rattle.xml_writer.specs.inner.PieceTexts.{begun_tag};
 ghost use Rattle.xml_writer.specs.inner.PlainTexts.{is_plain_anywhere};
 
 use data_types::push_escaped;
@@ -68,6 +70,40 @@ pub(crate) fn put_spelled(text: &[u8], buffer: &mut Buffer) -> bool
         return false;
     }
     buffer.put_all(b"", text, b"")
+}
+
+/// Puts an element with this tag and a text into the buffer, where each byte of the text stands for itself. `false` where one does
+/// not, or the buffer has not the room; it is as before.
+#[inline(always)]
+pub(crate) fn put_spelled_within(tag: &[u8], text: &[u8], buffer: &mut Buffer) -> bool
+    ensures put { IsTrue result → (chars : List ℕ) → text.now ≡ encode_utf8_all chars
+        → buffer.new ≡ buffer.old ++ (begun_tag tag.now false ++ (flat_map (escape_of false) chars ++ end_tag tag.now)) }
+    ensures kept { result ≡ false → buffer.new ≡ buffer.old }
+{
+    if !stands_for_itself(text) {
+        return false;
+    }
+    let count = buffer.len();
+    if !buffer.put_all(b"<", tag, b">") {
+        return false;
+    }
+    if put_with_end(tag, text, buffer) {
+        return true;
+    }
+    buffer.truncate(count);
+    false
+}
+
+/// Puts a text and the end tag behind it into the buffer. `false` where it has not the room; what it had is there.
+#[inline(always)]
+fn put_with_end(tag: &[u8], text: &[u8], buffer: &mut Buffer) -> bool
+    ensures put { IsTrue result → buffer.new ≡ buffer.old ++ (text.now ++ end_tag tag.now) }
+    ensures kept { (more : List ℕ) × (buffer.new ≡ buffer.old ++ more) }
+{
+    if !buffer.put_all(text, b"</", tag) {
+        return false;
+    }
+    buffer.put_all(b">", b"", b"")
 }
 
 /// Whether each byte of the text stands for itself, and none is a control.

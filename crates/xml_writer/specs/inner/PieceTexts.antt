@@ -1,7 +1,7 @@
 -- What each piece of an instance writes, one after the other.
 use Rattle.std.specs.Prelude.{◌≡◌, ℕ, Bool, true, false, List, [], ◌∷◌, ◌++◌, codes, drop}
 use Rattle.data_types.specs.Leaf.{Leaf, Bytes}
-use Rattle.data_types.specs.Value.{Piece, Begins, Holds, Ends}
+use Rattle.data_types.specs.Value.{Edge, Piece, Begins, Holds, Ends}
 use Rattle.facets.specs.LeafUnder.{Fits}
 use Rattle.facets.specs.declared.simple.Simple.{Simple}
 use Rattle.reference_check.specs.Forms.{Graph, Form, form_slots}
@@ -59,6 +59,10 @@ abbrev pub AreWritten : Graph ℕ Simple → Innermost → List Piece → List �
 AreWritten g at [] bytes = bytes ≡ []
 AreWritten g at (piece ∷ pieces) bytes =
     (one : List ℕ) × (more : List ℕ) × IsPieceText g at piece one × AreWritten g (innermost_behind g at piece) pieces more × (bytes ≡ one ++ more)
+
+-- what an element writes that holds this leaf and nothing else: none of its three pieces asks what is innermost before them
+abbrev pub IsElementText : Graph ℕ Simple → Edge → Leaf → List ℕ → Type 0
+IsElementText g edge l bytes = AreWritten g (innermost_ended edge.parent) (Begins edge ∷ Holds l ∷ Ends edge ∷ []) bytes
 
 -- Of what the pieces from one place on write, a front was put behind what a buffer had, and the pieces from another place on write the rest.
 abbrev pub HasPut : Graph ℕ Simple → List Piece → Innermost → ℕ → List ℕ → Innermost → ℕ → List ℕ → Type 0
