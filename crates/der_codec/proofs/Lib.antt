@@ -24,6 +24,7 @@ pub mod NoCuts
 pub mod PathsOpen
 pub mod ContentsSteps
 pub mod Fed
+pub mod Moved
 pub mod UsualFed
 pub mod TextLengths
 pub mod LeavesKnown

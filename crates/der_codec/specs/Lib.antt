@@ -10,6 +10,7 @@ pub mod OpenLeaves
 pub mod KeptPieces
 pub mod Reserved
 pub mod Checking
+pub mod Moved
 pub mod ReadInstances
 pub mod Laws
 pub mod ReadyLaws

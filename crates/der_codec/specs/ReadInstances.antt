@@ -9,6 +9,7 @@ use Rattle.message_model.specs.declared.fault.InstanceError.{InstanceError}
 use Rattle.der_model.specs.DerMessage.{der_message}
 use Rattle.der_model.specs.Der.{SpellsDer}
 use Rattle.der_codec.specs.Checking.{HasFedDer, IsDerCheckerFor, IsFreed, der_bytes_fed, der_failure, held_contents, token_held}
+use Rattle.der_codec.specs.Moved.{ReadsFrom}
 use Rattle.der_codec.specs.Reserved.{IsKeeping}
 use Rattle.der_codec.specs.declared.reader.DerReader.{DerReader}
 use Rattle.der_codec.specs.declared.room.Room.{Room}
@@ -16,6 +17,10 @@ use Rattle.der_codec.specs.declared.room.Room.{Room}
 -- The reader goes on: it was given these bytes, which break nothing so far, and keeps the pieces that they show.
 pub record HasKeptPieces (reader : DerReader) (T : Tables) (bytes : List ℕ) : Type 0 where
   pub given : HasFedDer reader.checker T bytes
+
+-- from this place on the bytes are clean parts and the beginning of one, and what is open then is what the reader has, as far on
+abbrev pub HasReadFrom : DerReader → Tables → ℕ → List ℕ → Type 0
+HasReadFrom reader T base bytes = ReadsFrom T base reader.checker.decoder bytes
 
 -- the pieces that the reader keeps
 abbrev pub kept_pieces : DerReader → Option (List Piece)

@@ -12,6 +12,7 @@ ghost use Rattle.der_codec.specs.KeptPieces.{KeepsShown, AreNone, StaysAlone};
 ghost use Rattle.der_codec.specs.Reserved.{IsKeeping, HasEnough};
 ghost use Rattle.der_codec.specs.OpenLeaves.{HoldsNothing};
 ghost use Rattle.der_codec.specs.Limits.{OpensFreeText, OpensBinary, OpensEnvelope, open_limit, leaf_come, token_come};
+ghost use Rattle.der_codec.specs.Moved.{ReadsFrom, DerStopsFrom, DerEndsFrom, IsWholeFrom};
 ghost use Rattle.der_codec.specs.Checking.{HasFedDer, ChecksAlone, IsReading, IsDerCheckerFor, StopsWithin, TakesDerFront, DerStops, HaveDerFault, IsSpelledDer, DerEndsAs, IsFreed, IsHeldOfEnvelope, open_count, der_bytes_fed, der_failure, held_contents, held_by_check, token_held};
 
 use crate::checks::Checks;
@@ -126,14 +127,17 @@ impl DerChecker {
     }
 
     /// Takes the next bytes, of at most 2^40 in all. It answers the first fault at the byte that
-    /// shows it, its place a byte number from 0. After an error it gives the same answer to every
-    /// later call, or that there is no memory for it, and holds nothing of what has come.
+    /// shows it, its place a byte number from 0: of a message that begins at another place the fault
+    /// is that, as far on. After an error it gives the same answer to every later call, or that there
+    /// is no memory for it, and holds nothing of what has come.
     pub fn feed(&mut self, model: &Model, piece: &[u8]) -> Result<(), InstanceError>
         requires room { der_failure self.old ≡ None → der_bytes_fed self.old + length piece.now ≤ 2 ^ 40 }
         requires made { IsDerCheckerFor self.old model.now }
         ensures made { IsDerCheckerFor self.new model.now }
         ensures ok { (bytes : List ℕ) → HasFedDer self.old model.now bytes → IfOk result (λ _. HasFedDer self.new model.now (bytes ++ piece.now)) }
         ensures err { (bytes : List ℕ) → HasFedDer self.old model.now bytes → IfErr result (λ e. DerStops model.now (bytes ++ piece.now) e) }
+        ensures ok_from { (base : ℕ) (bytes : List ℕ) → HasFedDer self.old model.now bytes → IfOk result (λ _. ReadsFrom model.now base self.new.decoder (bytes ++ piece.now)) }
+        ensures err_from { (base : ℕ) (bytes : List ℕ) → HasFedDer self.old model.now bytes → IfErr result (λ e. DerStopsFrom model.now base (bytes ++ piece.now) e) }
         ensures count { IfOk result (λ _. der_bytes_fed self.new ≡ der_bytes_fed self.old + length piece.now) }
         ensures failed { der_failure self.old ≡ None → IfErr result (λ e. der_failure self.new ≡ Some e) }
         ensures again { (e : InstanceError) → der_failure self.old ≡ Some e → IsAgain e result × (der_failure self.new ≡ der_failure self.old) }
@@ -398,6 +402,8 @@ impl DerChecker {
     pub fn finish(mut self, model: &Model) -> Result<(), InstanceError>
         ensures ok { (bytes : List ℕ) → HasFedDer self model.now bytes → IfOk result (λ _. IsSpelledDer model.now bytes) }
         ensures err { (bytes : List ℕ) → HasFedDer self model.now bytes → IfErr result (λ e. DerEndsAs model.now bytes e) }
+        ensures ok_from { (base : ℕ) (bytes : List ℕ) → HasFedDer self model.now bytes → IfOk result (λ _. IsWholeFrom model.now base bytes) }
+        ensures err_from { (base : ℕ) (bytes : List ℕ) → HasFedDer self model.now bytes → IfErr result (λ e. DerEndsFrom model.now base bytes e) }
         ensures again { (e : InstanceError) → der_failure self ≡ Some e → result ≡ Err e }
     {
         if let Some(error) = self.failed.take() {
@@ -411,6 +417,8 @@ impl DerChecker {
         requires made { IsDerCheckerFor self model.now }
         ensures ok { (bytes : List ℕ) → HasFedDer self model.now bytes → IfOk result (λ i. IsSpelledDerAs model.now bytes i.region.pieces) }
         ensures err { (bytes : List ℕ) → HasFedDer self model.now bytes → IfErr result (λ e. DerEndsAs model.now bytes e) }
+        ensures ok_from { (base : ℕ) (bytes : List ℕ) → HasFedDer self model.now bytes → IfOk result (λ _. IsWholeFrom model.now base bytes) }
+        ensures err_from { (base : ℕ) (bytes : List ℕ) → HasFedDer self model.now bytes → IfErr result (λ e. DerEndsFrom model.now base bytes e) }
         ensures again { (e : InstanceError) → der_failure self ≡ Some e → result ≡ Err e }
     {
         if let Some(error) = self.failed.take() {
@@ -426,6 +434,8 @@ impl DerChecker {
     fn finish_all(&self, model: &Model) -> Result<(), InstanceError>
         ensures ok { (bytes : List ℕ) → HasFedDer self.now model.now bytes → IfOk result (λ _. IsSpelledDer model.now bytes) }
         ensures err { (bytes : List ℕ) → HasFedDer self.now model.now bytes → IfErr result (λ e. DerEndsAs model.now bytes e) }
+        ensures ok_from { (base : ℕ) (bytes : List ℕ) → HasFedDer self.now model.now bytes → IfOk result (λ _. IsWholeFrom model.now base bytes) }
+        ensures err_from { (base : ℕ) (bytes : List ℕ) → HasFedDer self.now model.now bytes → IfErr result (λ e. DerEndsFrom model.now base bytes e) }
     {
         let _ = model.type_count();
         fragments_apart();

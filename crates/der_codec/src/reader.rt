@@ -6,7 +6,8 @@ ghost use Rattle.message_model.specs.Errors.{IsAgain};
 ghost use Rattle.der_model.specs.DerMessage.{der_message};
 ghost use Rattle.der_codec.specs.Checking.{DerStops, HaveDerFault, DerEndsAs, open_count};
 ghost use Rattle.der_codec.specs.Limits.{open_limit, leaf_come, token_come};
-ghost use Rattle.der_codec.specs.ReadInstances.{HasKeptPieces, IsDerReaderFor, IsReaderFreed, IsSpelledDerAs, read_so_far, der_reader_failure, reserved_room, reader_held, reader_token_held};
+ghost use Rattle.der_codec.specs.Moved.{DerStopsFrom, DerEndsFrom, IsWholeFrom};
+ghost use Rattle.der_codec.specs.ReadInstances.{HasKeptPieces, HasReadFrom, IsDerReaderFor, IsReaderFreed, IsSpelledDerAs, read_so_far, der_reader_failure, reserved_room, reader_held, reader_token_held};
 ghost use Rattle.der_codec.specs.Rooms.{BeginsEnough, ShowsEnough};
 
 use crate::checker::DerChecker;
@@ -78,14 +79,17 @@ impl DerReader {
     }
 
     /// Takes the next bytes, of at most 2^40 in all. It answers the first fault at the byte that
-    /// shows it, its place a byte number from 0. After an error it gives the same answer to every
-    /// later call, or that there is no memory for it, and keeps nothing of what has come.
+    /// shows it, its place a byte number from 0: of a message that begins at another place the fault
+    /// is that, as far on. After an error it gives the same answer to every later call, or that there
+    /// is no memory for it, and keeps nothing of what has come.
     pub fn feed(&mut self, model: &Model, piece: &[u8]) -> Result<(), InstanceError>
         requires room { der_reader_failure self.old ≡ None → read_so_far self.old + length piece.now ≤ 2 ^ 40 }
         requires made { IsDerReaderFor self.old model.now }
         ensures made { IsDerReaderFor self.new model.now }
         ensures ok { (bytes : List ℕ) → HasKeptPieces self.old model.now bytes → IfOk result (λ _. HasKeptPieces self.new model.now (bytes ++ piece.now)) }
         ensures err { (bytes : List ℕ) → HasKeptPieces self.old model.now bytes → IfErr result (λ e. DerStops model.now (bytes ++ piece.now) e) }
+        ensures ok_from { (base : ℕ) (bytes : List ℕ) → HasKeptPieces self.old model.now bytes → IfOk result (λ _. HasReadFrom self.new model.now base (bytes ++ piece.now)) }
+        ensures err_from { (base : ℕ) (bytes : List ℕ) → HasKeptPieces self.old model.now bytes → IfErr result (λ e. DerStopsFrom model.now base (bytes ++ piece.now) e) }
         ensures count { IfOk result (λ _. read_so_far self.new ≡ read_so_far self.old + length piece.now) }
         ensures failed { der_reader_failure self.old ≡ None → IfErr result (λ e. der_reader_failure self.new ≡ Some e) }
         ensures again { (e : InstanceError) → der_reader_failure self.old ≡ Some e → IsAgain e result × (der_reader_failure self.new ≡ der_reader_failure self.old) }
@@ -104,6 +108,8 @@ impl DerReader {
         requires made { IsDerReaderFor self model.now }
         ensures ok { (bytes : List ℕ) → HasKeptPieces self model.now bytes → IfOk result (λ i. IsSpelledDerAs model.now bytes i.region.pieces) }
         ensures err { (bytes : List ℕ) → HasKeptPieces self model.now bytes → IfErr result (λ e. DerEndsAs model.now bytes e) }
+        ensures ok_from { (base : ℕ) (bytes : List ℕ) → HasKeptPieces self model.now bytes → IfOk result (λ _. IsWholeFrom model.now base bytes) }
+        ensures err_from { (base : ℕ) (bytes : List ℕ) → HasKeptPieces self model.now bytes → IfErr result (λ e. DerEndsFrom model.now base bytes e) }
         ensures again { (e : InstanceError) → der_reader_failure self ≡ Some e → result ≡ Err e }
     {
         self.checker.finish_pieces(model)

@@ -11,6 +11,12 @@ returns-clause-ok c = λ bytes h. ok_when c.feed.result _ _ (c.feed.ensures.ok b
 pub returns-clause-err : goal.returns-clause-err
 returns-clause-err c = λ bytes h. c.feed.ensures.err bytes h.given
 
+pub returns-clause-ok_from : goal.returns-clause-ok_from
+returns-clause-ok_from c = λ base bytes h. c.feed.ensures.ok_from base bytes h.given
+
+pub returns-clause-err_from : goal.returns-clause-err_from
+returns-clause-err_from c = λ base bytes h. c.feed.ensures.err_from base bytes h.given
+
 pub returns-clause-made : goal.returns-clause-made
 returns-clause-made c = (c.feed.ensures.made, λ none. made_keeps c.args.model.now c.feed.result c.args.self.now.checker c.feed.new.self none c.requires.made.1 c.feed.ensures.keeps c.feed.ensures.failed c.feed.ensures.again)
 
